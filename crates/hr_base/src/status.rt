@@ -1,0 +1,62 @@
+//! The statuses of a task's revision, after those of Harbor's job service, and the hooks that tell
+//! them.
+ghost use Rattle.std.specs.Prelude.{◌≡◌, ◌↔◌, IsTrue};
+
+use crate::JobNo;
+
+/// What has come of one revision of a job. A revision is one attempt at it, from 0.
+#[derive(Clone, Copy, Debug, PartialEq, Eq)]
+pub enum Status {
+    /// It waits for its first turn.
+    Pending,
+    /// It waits for a later turn, after an error of the revision before it.
+    Scheduled,
+    /// A worker runs it.
+    Running,
+    /// It was stopped, and does nothing more.
+    Stopped,
+    /// It ended with a recorded cause.
+    Error,
+    /// It did all that it was asked.
+    Success,
+}
+
+/// The word that a board keeps for one job and revision.
+#[derive(Clone, Copy, Debug, PartialEq, Eq)]
+pub enum Mark {
+    /// The revision has not been opened.
+    Unopened,
+    /// The revision has this status.
+    At(Status),
+}
+
+/// The message that a revision, from 0 to 3, of a job reached a status.
+#[derive(Clone, Copy, Debug, PartialEq, Eq)]
+pub struct Hook {
+    pub job: JobNo,
+    pub rev: u8,
+    pub status: Status,
+}
+
+impl Status {
+    ghost use Rattle.hr_base.specs.Status.{code_of, IsFinal};
+
+    /// How far along a status is, from 0 to 3. Hooks of one revision are joined by it.
+    pub fn code(self) -> u8
+        ensures { result ≡ code_of self }
+    {
+        match self {
+            Status::Pending => 0,
+            Status::Scheduled => 1,
+            Status::Running => 2,
+            Status::Stopped | Status::Error | Status::Success => 3,
+        }
+    }
+
+    /// Whether nothing follows this status in its revision.
+    pub fn is_final(self) -> bool
+        ensures { IsTrue result ↔ IsFinal self }
+    {
+        matches!(self, Status::Stopped | Status::Error | Status::Success)
+    }
+}
