@@ -1,1 +1,4 @@
+pub mod Calls
+pub mod Sink
+pub mod Source
 pub mod Stream

@@ -2,6 +2,13 @@
 //! has its cause in a contract. Start with `stream`.
 #![tactic(auto)]
 
+mod calls;
+mod edges;
+mod mem_sink;
+mod mem_source;
 mod stream;
 
+pub use edges::{StdSink, StdSource};
+pub use mem_sink::MemSink;
+pub use mem_source::MemSource;
 pub use stream::{Counted, Failed, Sink, Source, Stream};
