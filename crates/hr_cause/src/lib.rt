@@ -12,3 +12,6 @@ pub use edges::{StdSink, StdSource};
 pub use mem_sink::MemSink;
 pub use mem_source::MemSource;
 pub use stream::{Counted, Failed, Sink, Source, Stream};
+
+#[cfg(test)]
+mod tests;
