@@ -2,7 +2,7 @@
 use Rattle.std.proofs.Common.{◌≡◌, ◌+◌, ◌≤◌, ℕ, min, List, [], ◌∷◌, ◌++◌, length, take, drop, refl, sym, ◌∙◌, subst, arith, Some, length-append, length-drop}
 use Rattle.std.proofs.lemmas.List.{drop-drop, take-append-drop, length-take-le}
 use Rattle.std.proofs.Math.Seq.{take-append_seam}
-use Rattle.hr_cause.specs.Source.{let_through}
+use Rattle.hr_cause.specs.MemSource.{let_through}
 use Rattle.hr_cause.specs.Stream.{Reads}
 
 -- a piece lets no more through than there is

@@ -1,4 +1,5 @@
 pub mod Calls
-pub mod Sink
-pub mod Source
+pub mod Edges
+pub mod MemSink
+pub mod MemSource
 pub mod Stream

@@ -1,4 +1,5 @@
-//! How a device in memory counts its calls, and which of them fail. (Our own.)
+//! How devices count their faults, and those in memory their calls, some of which fail by a list.
+//! (Our own.)
 ghost use Rattle.std.specs.Prelude.{◌≡◌, ◌↔◌, ◌+◌, ◌<◌, ◌^◌, ℕ, IfOk, IsTrue, Contains};
 ghost use Rattle.std.specs.Ordering.{nat_cmp};
 ghost use Rattle.std.specs.BTreeSet as ordered;
@@ -31,7 +32,9 @@ impl Model for Calls {
 
     ghost view = { λ c. record { failing = c.listed.value; calls = c.calls; faults = c.faults } };
 
-    ghost invariant = { λ c. ((n : ℕ) → IsTrue (ordered.contains nat_cmp c.failing n) ↔ Contains c.listed.value n)
+    // The set has the numbers of the list, and each is one of 64 bits.
+    ghost invariant = { λ c.
+        ((n : ℕ) → IsTrue (ordered.contains nat_cmp c.failing n) ↔ Contains c.listed.value n)
         × ((n : ℕ) → Contains c.listed.value n → n < 2 ^ 64) };
 }
 
@@ -58,17 +61,16 @@ impl Calls {
         let planned = is_planned(&self.failing, self.calls);
         self.calls = self.calls.saturating_add(1);
         if planned {
-            self.faults = self.faults.saturating_add(1);
-            return Err(Failed);
+            return Err(fault(&mut self.faults));
         }
         Ok(())
     }
 
-    /// Counts a fault that no list foresaw.
-    pub(crate) fn fault(&mut self)
+    /// Counts a fault that no list foresaw, and answers it.
+    pub(crate) fn fault(&mut self) -> Failed
         ensures { self.new ≡ record self.old { faults = counted self.old.faults } }
     {
-        self.faults = self.faults.saturating_add(1);
+        fault(&mut self.faults)
     }
 
     /// How often a call failed.
@@ -77,6 +79,15 @@ impl Calls {
     {
         self.faults
     }
+}
+
+/// Counts a fault, and answers it.
+pub(crate) fn fault(faults: &mut u64) -> Failed
+    ensures one_more { faults.new ≡ counted faults.old }
+    ensures in_range { faults.old < 2 ^ 64 }
+{
+    *faults = faults.saturating_add(1);
+    Failed
 }
 
 fn gathered(alloc: Global, numbers: &[u64]) -> Result<BTreeSet<u64>, Memory>
@@ -88,7 +99,8 @@ fn gathered(alloc: Global, numbers: &[u64]) -> Result<BTreeSet<u64>, Memory>
 
 // A call past the last number of 64 bits stands in no list.
 fn is_planned(failing: &BTreeSet<u64>, calls: u64) -> bool
-    ensures { IsTrue result ↔ ((calls + 1 < 2 ^ 64) × IsTrue (ordered.contains nat_cmp failing.now (calls + 1))) }
+    ensures { IsTrue result
+        ↔ ((calls + 1 < 2 ^ 64) × IsTrue (ordered.contains nat_cmp failing.now (calls + 1))) }
 {
     match calls.checked_add(1) {
         Some(number) => failing.contains(&number),

@@ -1,7 +1,7 @@
 //! A sink in memory, which keeps what it was sent and fails by a list. (Our own.)
 ghost use Rattle.std.specs.Prelude.{◌≡◌, ◌⊎◌, ℕ, Some, None, min, [], ◌++◌, length, take, IfOk, IsErr, OnErr, IfSome, IfNone};
 ghost use Rattle.hr_cause.specs.Calls.{IsPlanned};
-ghost use Rattle.hr_cause.specs.Sink.{WritesTo};
+ghost use Rattle.hr_cause.specs.MemSink.{WritesTo};
 ghost use Rattle.hr_cause.specs.Stream.{HasCause, Writes};
 
 use crate::calls::Calls;
@@ -18,7 +18,7 @@ pub struct MemSink {
 }
 
 impl Model for MemSink {
-    ghost use Rattle.hr_cause.specs.Sink.{SinkState};
+    ghost use Rattle.hr_cause.specs.MemSink.{SinkState};
 
     ghost Value = { SinkState };
 
@@ -70,29 +70,29 @@ impl Stream for MemSink {
 }
 
 impl Sink for MemSink {
-    /// A write that isn't planned to fail takes the whole piece. Where there is no memory for it,
-    /// it takes the first byte, and where there is none for that either, it fails.
+    /// A write that doesn't fail by the list takes the whole piece. Where there is no memory for
+    /// it, it takes the first byte, and where there is none for that either, it fails, which no
+    /// contract can rule out.
     fn write(&mut self, bytes: &[u8]) -> Result<usize, Failed>
         ensures exact { WritesTo self.old bytes.now result self.new }
         ensures planned { IsPlanned self.old.failing self.old.calls → IsErr result }
-        ensures ok { IfOk result (λ count. Writes (Some self.old.sent) bytes.now count (Some self.new.sent)) }
+        ensures ok { IfOk result (λ count.
+            Writes (Some self.old.sent) bytes.now count (Some self.new.sent)) }
         ensures err { OnErr result (self.new.sent ≡ self.old.sent) }
         ensures cause { HasCause self.old.faults self.new.faults result }
     {
         self.calls.call()?;
         match keep(&mut self.sent, bytes) {
             Some(count) => Ok(count),
-            None => {
-                self.calls.fault();
-                Err(Failed)
-            }
+            None => Err(self.calls.fault()),
         }
     }
 }
 
 // Keeps the piece where there is room for it, else its first byte.
 fn keep(kept: &mut Vec<u8>, bytes: &[u8]) -> Option<usize>
-    ensures taken { IfSome result (λ count. (count ≡ length bytes.now) ⊎ (count ≡ min 1 (length bytes.now))) }
+    ensures taken { IfSome result (λ count.
+        (count ≡ length bytes.now) ⊎ (count ≡ min 1 (length bytes.now))) }
     ensures kept { IfSome result (λ count. kept.new.items ≡ kept.old.items ++ take count bytes.now) }
     ensures none { IfNone result (kept.new.items ≡ kept.old.items) }
 {

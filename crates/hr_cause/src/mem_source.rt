@@ -1,6 +1,6 @@
 //! A source in memory, which gives its bytes in pieces and fails by a list. (Our own.)
 ghost use Rattle.std.specs.Prelude.{◌≡◌, ◌≤◌, Some, None, length, ◌++◌, take, drop, IfOk, OnErr};
-ghost use Rattle.hr_cause.specs.Source.{let_through, ReadsFrom};
+ghost use Rattle.hr_cause.specs.MemSource.{let_through, ReadsFrom};
 ghost use Rattle.hr_cause.specs.Stream.{HasCause, Reads};
 
 use crate::calls::Calls;
@@ -21,7 +21,7 @@ pub struct MemSource {
 
 impl Model for MemSource {
     ghost use Rattle.std.specs.Prelude.{◌≤◌, length, drop};
-    ghost use Rattle.hr_cause.specs.Source.{SourceState};
+    ghost use Rattle.hr_cause.specs.MemSource.{SourceState};
 
     ghost Value = { SourceState };
 
@@ -81,7 +81,8 @@ impl Source for MemSource {
     /// Where a read fails, the buffer stays too.
     fn read(&mut self, buf: &mut [u8]) -> Result<usize, Failed>
         ensures exact { ReadsFrom self.old buf.old result buf.new self.new }
-        ensures ok { IfOk result (λ count. Reads (Some self.old.left) buf.new count (Some self.new.left)) }
+        ensures ok { IfOk result (λ count.
+            Reads (Some self.old.left) buf.new count (Some self.new.left)) }
         ensures err { OnErr result (self.new.left ≡ self.old.left) }
         ensures cause { HasCause self.old.faults self.new.faults result }
     {
