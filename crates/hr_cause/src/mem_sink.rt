@@ -1,5 +1,5 @@
 //! A sink in memory, which keeps what it was sent and fails by a list. (Our own.)
-ghost use Rattle.std.specs.Prelude.{◌≡◌, ◌⊎◌, ℕ, Some, None, min, [], ◌++◌, length, take, IfOk, IsErr, OnErr, IfSome, IfNone};
+ghost use Rattle.std.specs.Prelude.{◌≡◌, ◌⊎◌, Some, None, min, [], ◌++◌, length, take, IfOk, IsErr, OnErr, IfSome, IfNone};
 ghost use Rattle.hr_cause.specs.Calls.{IsPlanned};
 ghost use Rattle.hr_cause.specs.MemSink.{WritesTo};
 ghost use Rattle.hr_cause.specs.Stream.{HasCause, Writes};
