@@ -57,6 +57,15 @@ impl<T> From<Vec<T>> for List<T> {
     }
 }
 
+impl<T> From<List<T>> for Vec<T> {
+    ghost from_gives = { λ list made. made.items ≡ list };
+
+    fn from(list: List<T>) -> Vec<T> {
+        let List { items } = list;
+        items
+    }
+}
+
 impl<T: PartialEq> PartialEq for List<T> {
     ghost eq = { pointwise T.eq };
 

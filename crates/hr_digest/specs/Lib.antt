@@ -1,0 +1,4 @@
+pub mod Digest
+pub mod Order
+pub use Rattle.hex.specs.Hex
+pub use Rattle.sha2.specs.Sha256

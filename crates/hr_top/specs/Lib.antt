@@ -1,0 +1,12 @@
+pub mod Words
+pub mod Image
+pub mod Script
+pub mod Canonical
+pub mod Held
+pub mod Answers
+pub mod Input
+pub mod Command
+pub mod Outcome
+pub use Rattle.hr_cause.specs.Stream
+pub use Rattle.hr_digest.specs.Digest
+pub use Rattle.hex.specs.Hex

@@ -1,0 +1,154 @@
+//! The public call: words and input in, text and state out. (Our own.)
+ghost use Rattle.std.specs.Prelude.{◌≡◌, ◌≤◌, ◌↔◌, ◌⊎◌, IsTrue, List, Option, ℕ, length};
+ghost use Rattle.hr_cause.specs.Stream.{Rose};
+ghost use Rattle.hr_top.specs.Answers.{memory_text, refused_text};
+ghost use Rattle.hr_top.specs.Input.{WasRead};
+ghost use Rattle.hr_top.specs.Outcome.{Comes};
+ghost use Rattle.hr_top.specs.Script.{script_limit};
+ghost use Rattle.hr_top.specs.Command.{IsAny, IsFaulted, IsNothing, IsRefused, IsReplay, IsStatus, IsUsage, Replayed, Sent, SentFront, TookFront};
+ghost use Rattle.hr_top.specs.declared.outcome.Outcome.TheVariants as outcome;
+
+use crate::held::Ending;
+use crate::input::{InputRefused, read_input};
+use crate::outcome::Outcome;
+use crate::output::send;
+use crate::replay::run_script;
+use crate::script::{ScriptRefused, read_script};
+use hr_base::{Bytes, Memory};
+use hr_cause::{Failed, Sink, Source};
+use std::alloc::Global;
+
+/// Runs the command that the words name, and answers the program's status.
+///
+/// The one command is `replay`: it reads a script from the input to its end, runs it, and sends the
+/// answers of its events. The words are those behind the program's name.
+///
+/// | Status | Comes |
+/// |---|---|
+/// | 0 | the script was run, and each execution succeeded |
+/// | 1 | the words name no command: the usage line is sent |
+/// | 2 | the input is no script: the line from which it is none is sent, 0 where it is too long |
+/// | 3 | the input failed |
+/// | 4 | the sink failed: a front of the text was sent |
+/// | 5 | want of memory |
+/// | 7 | the script was run, and an execution was not finished |
+///
+/// Where several hold, the first of 5, 4, 3, 1, 2, 7 is answered. With any status but 0, 4 and 7
+/// nothing was run. `kept` has to be empty before the call.
+pub fn top<S: Source, K: Sink>(
+    alloc: Global,
+    words: &[Bytes],
+    input: &mut S,
+    out: &mut K,
+    kept: &mut Ending,
+) -> u8
+    requires { IsNothing kept.old }
+
+    // The answer is one of these.
+    ensures statuses { IsStatus result }
+
+    // 0 and 7: the whole input is a script, which was run, and its answers were sent.
+    ensures replayed { (result ≡ 0) ⊎ (result ≡ 7)
+        → Sent (λ text. Replayed words.now (S.left input.old) (S.left input.new) kept.new text result)
+        (K.sent out.old) (K.sent out.new) }
+
+    // 1: the words are others.
+    ensures usage { result ≡ 1
+        → Sent (IsUsage words.now (S.left input.old) (S.left input.new) kept.new)
+        (K.sent out.old) (K.sent out.new) }
+
+    // 2: the whole input is no script, or it is too long to be one.
+    ensures refused { result ≡ 2
+        → Sent (IsRefused words.now (S.left input.old) (S.left input.new) kept.new)
+        (K.sent out.old) (K.sent out.new) }
+
+    // 3: the input failed.
+    ensures faulted { result ≡ 3
+        → Sent (IsFaulted words.now (S.faults input.old) (S.faults input.new) kept.new)
+        (K.sent out.old) (K.sent out.new) }
+
+    // 4: the sink failed. All is as with one of the statuses above, but a front of its text was sent.
+    ensures cut_off { result ≡ 4 → Rose (K.faults out.old) (K.faults out.new)
+        × SentFront (IsAny words.now (S.left input.old) (S.left input.new)
+        (S.faults input.old) (S.faults input.new) kept.new)
+        (K.sent out.old) (K.sent out.new) }
+
+    // 5: there was no room, and nothing was run.
+    ensures memory { result ≡ 5
+        → IsNothing kept.new × TookFront (K.sent out.old) memory_text (K.sent out.new) }
+
+    // A fault of a device is answered, unless an earlier status of the order is.
+    ensures input_calm { (result ≡ 3) ⊎ (result ≡ 4) ⊎ (result ≡ 5)
+        ⊎ (S.faults input.new ≡ S.faults input.old) }
+    ensures out_calm { (result ≡ 4) ⊎ (result ≡ 5) ⊎ (K.faults out.new ≡ K.faults out.old) }
+{
+    let outcome = play(alloc, words, input, kept);
+    match send(out, outcome.text()) {
+        Ok(()) => outcome.status(),
+        Err(Failed) => outcome.unsent_status(),
+    }
+}
+
+// Runs the command that the words name, and says how it came out.
+fn play<S: Source>(alloc: Global, words: &[Bytes], input: &mut S, kept: &mut Ending) -> Outcome
+    requires { IsNothing kept.old }
+    ensures { Comes result words.now (S.left input.old) (S.left input.new)
+        (S.faults input.old) (S.faults input.new) kept.new }
+{
+    if !is_replay(words) {
+        return Outcome::Usage;
+    }
+    let bytes = match read_input(alloc, input) {
+        Ok(bytes) => bytes,
+        Err(InputRefused::Failed) => return Outcome::Faulted,
+        Err(InputRefused::TooLong) => return Outcome::TooLong,
+        Err(InputRefused::Memory) => return Outcome::Memory,
+    };
+    replay(alloc, &bytes, kept)
+}
+
+// Whether the words are the one word `replay`.
+fn is_replay(words: &[Bytes]) -> bool
+    ensures { IsTrue result ↔ IsReplay words.now }
+{
+    match words {
+        [word] => word.view() == b"replay".as_slice(),
+        _ => false,
+    }
+}
+
+// Reads a script and runs it.
+fn replay(alloc: Global, bytes: &[u8], kept: &mut Ending) -> Outcome
+    requires short { length bytes.now ≤ script_limit }
+    requires nothing { IsNothing kept.old }
+    ensures { (words : List (List ℕ)) (before now : Option (List ℕ)) (faults : ℕ) → IsReplay words
+        → WasRead before bytes.now now → Comes result words before now faults faults kept.new }
+{
+    let script = match read_script(alloc, bytes) {
+        Ok(script) => script,
+        Err(ScriptRefused::NotYet { line }) => return not_yet(alloc, line),
+        Err(ScriptRefused::Memory) => return Outcome::Memory,
+    };
+    match run_script(alloc, script) {
+        Ok(run) => {
+            *kept = run.kept;
+            Outcome::Replayed {
+                text: run.text,
+                status: run.status,
+            }
+        }
+        Err(Memory) => Outcome::Memory,
+    }
+}
+
+// The refusal of the line with this number.
+fn not_yet(alloc: Global, number: u32) -> Outcome
+    ensures { (result ≡ outcome.Memory) ⊎ (result ≡ outcome.NotYet (refused_text number)) }
+{
+    match format!(in alloc; "line {number} not yet\n") {
+        Ok(text) => Outcome::NotYet {
+            text: Bytes::from(text.into_bytes()),
+        },
+        Err(_) => Outcome::Memory,
+    }
+}
