@@ -1,10 +1,9 @@
 -- Equality and order of digests, for maps that are keyed by them. (The order is our own.)
-use Rattle.std.specs.Prelude.{◌≡◌, ℕ, Bool, true, List, nat_eq, refl}
+use Rattle.std.specs.Prelude.{◌≡◌, ℕ, Bool, List, nat_eq}
 use Rattle.std.specs.Cmp.{IsEquivalence, IsPartialOrder, IsTotalOrder, nat_cmp_total, on_equiv, on_po, on_total}
 use Rattle.std.specs.Cmp.Lexicographic.{lists_total, nat_list_eq_equiv, pointwise, slice_cmp, texts_po, texts_ties}
 use Rattle.std.specs.Ordering.{as_partial_cmp, eq_by_cmp, nat_cmp}
 use Rattle.std.specs.declared.cmp.Ordering.{Ordering}
-use Rattle.std.specs.declared.cmp.Ordering.TheVariants.{Equal}
 use Rattle.hr_digest.specs.declared.digest.Digest.{Digest}
 use Rattle.hr_digest.specs.declared.digest.Digest.TheVariants.{Sha256}
 

@@ -1,7 +1,7 @@
 -- What was read and sent, piece after piece.
-use Rattle.std.proofs.Common.{◌≡◌, ◌≤◌, ◌-◌, ℕ, List, [], ◌∷◌, ◌++◌, length, take, drop, Option, Some, None, refl, sym, ap, ◌∙◌, subst, append_assoc, take-append-drop, arith, length-drop}
+use Rattle.std.proofs.Common.{◌≡◌, ◌-◌, ℕ, List, [], ◌++◌, length, take, drop, Option, Some, None, refl, sym, ap, ◌∙◌, subst, append_assoc, take-append-drop, arith, length-drop}
 use Rattle.std.proofs.lemmas.List.{append-nil, take_all}
-use Rattle.hr_cause.specs.Stream.{Gave, IsEnded, Took}
+use Rattle.hr_cause.specs.Stream.{Gave, Took}
 use Rattle.hr_top.specs.Command.{TookFront}
 
 pub took_none : (a : Option (List ℕ)) → Took a [] a

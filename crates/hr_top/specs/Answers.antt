@@ -1,5 +1,5 @@
 -- The texts that a run prints, each line ended by a line feed. (Our own.)
-use Rattle.std.specs.Prelude.{◌==◌, ℕ, List, [], ◌∷◌, ◌++◌, codes, Option, Some, None}
+use Rattle.std.specs.Prelude.{ℕ, List, [], ◌∷◌, ◌++◌, codes, Option, Some, None}
 use Rattle.std.specs.Fmt.{decimal}
 use Rattle.hr_digest.specs.Digest.{digest_of, text_of_digest}
 use Rattle.hr_top.specs.Held.{manifest_of}

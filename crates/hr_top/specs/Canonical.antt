@@ -1,6 +1,6 @@
 -- The canonical manifest of an image (OCI Image 1.1, "Image Manifest Specification"): one line of
 -- JSON without spaces, with the members in this order. (The order and the spacing are our own.)
-use Rattle.std.specs.Prelude.{ℕ, List, [], ◌∷◌, ◌++◌, length, map, codes}
+use Rattle.std.specs.Prelude.{ℕ, List, ◌++◌, length, map, codes}
 use Rattle.std.specs.List.{join_with_byte}
 use Rattle.std.specs.Fmt.{decimal}
 use Rattle.hr_digest.specs.Digest.{digest_of, text_of_digest}

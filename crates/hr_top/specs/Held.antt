@@ -1,7 +1,6 @@
 -- What a registry holds of one image: content under its digests, and a tag that names a manifest
 -- (OCI Distribution 1.1, "Definitions").
-use Rattle.std.specs.Prelude.{◌≡◌, ◌≢◌, ℕ, List, [], ◌∷◌, map, codes, Contains, All, AllPairs, IfSome, Option, Some, None}
-use Rattle.std.specs.List.{AllByRecursion}
+use Rattle.std.specs.Prelude.{◌≡◌, ◌≢◌, ℕ, List, [], ◌∷◌, map, codes, Contains, All, AllPairs, IfSome, Some}
 use Rattle.hr_digest.specs.declared.digest.Digest.{Digest}
 use Rattle.hr_digest.specs.Digest.{digest_of}
 use Rattle.hr_top.specs.Canonical.{manifest_text}

@@ -1,6 +1,5 @@
 -- What a script of one image stands for, and which line of another text is refused. (Our own.)
-use Rattle.std.specs.Prelude.{◌≡◌, ◌<◌, ◌≤◌, ◌-◌, ◌==◌, ℕ, Bool, true, false, not, List, [], ◌∷◌, length, take, filter, codes, Option, Some, None}
-use Rattle.hr_top.specs.Words.{lines_of}
+use Rattle.std.specs.Prelude.{◌≡◌, ◌<◌, ◌≤◌, ◌-◌, ◌==◌, ℕ, Bool, false, not, List, [], ◌∷◌, length, take, filter, codes, Option, Some, None}
 use Rattle.hr_top.specs.Image.{IsImageLine}
 use Rattle.hr_top.specs.declared.script.Script.{Script}
 use Rattle.hr_top.specs.declared.script.Reach.{Reach}

@@ -1,6 +1,6 @@
 -- Lines and words of a script, and the texts that stand in them. (Our own, but for the grammar of
 -- repositories, which is a part of that of OCI Distribution 1.1, "Pulling manifests".)
-use Rattle.std.specs.Prelude.{◌≡◌, ◌<◌, ◌≤◌, ◌+◌, ◌%◌, ◌==◌, ◌||◌, ◌&&◌, nat_le, ℕ, Bool, not, List, [], ◌∷◌, length, Option, Some, None}
+use Rattle.std.specs.Prelude.{◌≡◌, ◌<◌, ◌≤◌, ◌+◌, ◌%◌, ◌==◌, ◌||◌, ◌&&◌, nat_le, ℕ, Bool, List, [], ◌∷◌, length, Option, Some, None}
 use Rattle.std.specs.List.{AllByRecursion, AllPass, slice_split}
 use Rattle.hex.specs.Hex.{IsBytes}
 

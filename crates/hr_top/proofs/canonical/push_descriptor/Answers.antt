@@ -1,7 +1,6 @@
-use Rattle.std.proofs.Common.{◌≡◌, ◌++◌, List, ℕ, length, codes, sym, ◌∙◌, ap, subst}
+use Rattle.std.proofs.Common.{◌≡◌, ◌++◌, List, ℕ, length, codes, ◌∙◌, ap}
 use Rattle.std.specs.Fmt.{decimal}
 use Rattle.hr_digest.specs.Digest.{digest_of, text_of_digest}
-use Rattle.hr_digest.specs.declared.digest.Digest.{Digest}
 use Rattle.hr_top.proofs.CanonicalLemmas.{seven_pieces}
 use Rattle.hr_top.proofs.canonical.push_descriptor.Goals as goal
 

@@ -1,4 +1,4 @@
-use Rattle.std.proofs.Common.{◌≡◌, ◌++◌, ◌∷◌, [], List, ℕ, Vec, inr, codes, ◌∙◌, ap, append_assoc}
+use Rattle.std.proofs.Common.{◌≡◌, ℕ, Vec, inr, ◌∙◌, ap, append_assoc}
 use Rattle.std.specs.declared.alloc.Global.{Global}
 use Rattle.hr_top.specs.Answers.{refused_text}
 use Rattle.hr_top.specs.declared.outcome.Outcome.TheVariants as outcome

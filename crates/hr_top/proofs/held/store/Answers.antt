@@ -1,7 +1,7 @@
-use Rattle.std.proofs.Common.{◌≡◌, ◌∷◌, ◌++◌, [], List, ℕ, map, sym, ◌∙◌, ap, subst}
+use Rattle.std.proofs.Common.{◌∷◌, ◌++◌, [], List, map, sym, ◌∙◌, ap, subst}
 use Rattle.std.specs.Prelude.{All}
 use Rattle.hr_top.specs.Canonical.{manifest_text}
-use Rattle.hr_top.specs.Held.{Covers, IsOwn, piece_of}
+use Rattle.hr_top.specs.Held.{IsOwn}
 use Rattle.hr_top.specs.declared.held.Piece.{Piece}
 use Rattle.hr_top.specs.declared.held.Held.{Held}
 use Rattle.hr_top.proofs.HeldLemmas.{own_pieces, stored}

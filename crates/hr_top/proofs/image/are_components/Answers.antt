@@ -1,4 +1,4 @@
-use Rattle.std.proofs.Common.{◌≡◌, ◌+◌, ◌∷◌, List, ℕ, Option, Bor, length, refl, subst, sym, ◌∙◌, ap, arith}
+use Rattle.std.proofs.Common.{◌≡◌, ◌+◌, List, ℕ, Option, Bor, length, refl, subst, sym, ◌∙◌, ap, arith}
 use Rattle.std.specs.Option.{option_copied}
 use Rattle.hr_top.specs.Words.{AreComponents, length_left, pieces_left, split_at_byte}
 use Rattle.hr_top.proofs.ImageLemmas.{false_true, nothing_left}
