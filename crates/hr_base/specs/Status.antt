@@ -2,6 +2,8 @@
 use Rattle.std.specs.Prelude.{◌≡◌, ℕ}
 use Rattle.hr_base.specs.declared.status.Status.{Status}
 use Rattle.hr_base.specs.declared.status.Status.TheVariants.{Pending, Scheduled, Running, Stopped, Error, Success}
+use Rattle.hr_base.specs.declared.status.Mark.{Mark}
+use Rattle.hr_base.specs.declared.status.Mark.TheVariants.{Unopened, At}
 
 -- how far along a status is: the three that end a revision are equally far
 abbrev pub code_of : Status → ℕ
@@ -15,3 +17,13 @@ code_of Success = 3
 -- nothing follows it in its revision
 abbrev pub IsFinal : Status → Type 0
 IsFinal status = code_of status ≡ 3
+
+-- the word by which a board keeps a mark, from 0 to 6
+abbrev pub word_of : Mark → ℕ
+word_of Unopened = 0
+word_of (At Pending) = 1
+word_of (At Scheduled) = 2
+word_of (At Running) = 3
+word_of (At Stopped) = 4
+word_of (At Error) = 5
+word_of (At Success) = 6

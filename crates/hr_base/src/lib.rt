@@ -5,11 +5,17 @@
 mod bytes;
 mod list;
 mod memory;
+mod merge;
 mod number;
 mod status;
+#[cfg(test)]
+mod tests;
 
 pub use bytes::Bytes;
 pub use list::List;
 pub use memory::Memory;
+pub use merge::{
+    join, join_all, joined_again, joined_in_any_order, joined_in_turn, joined_is_first_greatest,
+};
 pub use number::{ExecNo, JobNo, Moment, PolicyNo, RegNo};
 pub use status::{Hook, Mark, Status};

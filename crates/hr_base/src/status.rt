@@ -1,6 +1,6 @@
 //! The statuses of a task's revision, after those of Harbor's job service, and the hooks that tell
 //! them.
-ghost use Rattle.std.specs.Prelude.{◌≡◌, ◌↔◌, IsTrue};
+ghost use Rattle.std.specs.Prelude.{◌≡◌, ◌↔◌, ◌<◌, ◌≤◌, IsTrue, IsNone, Some};
 
 use crate::JobNo;
 
@@ -58,5 +58,43 @@ impl Status {
         ensures { IsTrue result ↔ IsFinal self }
     {
         matches!(self, Status::Stopped | Status::Error | Status::Success)
+    }
+}
+
+impl Mark {
+    ghost use Rattle.hr_base.specs.Status.{word_of};
+    ghost use Rattle.hr_base.specs.declared.status.Mark.{Mark};
+
+    /// The number by which a board keeps this mark, from 0 to 6.
+    pub fn word(self) -> u64
+        ensures value { result ≡ word_of self }
+        ensures small { result ≤ 6 }
+    {
+        match self {
+            Mark::Unopened => 0,
+            Mark::At(Status::Pending) => 1,
+            Mark::At(Status::Scheduled) => 2,
+            Mark::At(Status::Running) => 3,
+            Mark::At(Status::Stopped) => 4,
+            Mark::At(Status::Error) => 5,
+            Mark::At(Status::Success) => 6,
+        }
+    }
+
+    /// The mark that a board keeps by this number, or `None` where no mark has it.
+    pub fn of_word(word: u64) -> Option<Mark>
+        ensures found { (mark : Mark) → (result ≡ Some mark) ↔ (word_of mark ≡ word) }
+        ensures none { IsNone result ↔ (6 < word) }
+    {
+        match word {
+            0 => Some(Mark::Unopened),
+            1 => Some(Mark::At(Status::Pending)),
+            2 => Some(Mark::At(Status::Scheduled)),
+            3 => Some(Mark::At(Status::Running)),
+            4 => Some(Mark::At(Status::Stopped)),
+            5 => Some(Mark::At(Status::Error)),
+            6 => Some(Mark::At(Status::Success)),
+            _ => None,
+        }
     }
 }
