@@ -1,7 +1,7 @@
 -- The steps of a walk that remembers the newest star alone, and that they lose no covering.
-use Rattle.std.proofs.Common.{◌≡◌, ℕ, ◌+◌, ◌≤◌, zero, suc, Bool, true, false, List, [], ◌∷◌, drop, length, ◌⊎◌, ◌↔◌, inl, inr, refl, sym, subst, arith}
+use Rattle.std.proofs.Common.{◌≡◌, ℕ, ◌+◌, ◌≤◌, zero, suc, Bool, true, false, List, [], ◌∷◌, drop, length, ◌⊎◌, ◌↔◌, inl, inr, refl, sym, subst, arith, ◌*◌, ◌<◌, ap}
 use Rattle.std.specs.Prelude.{MatchBool}
-use Rattle.std.proofs.lemmas.List.{drop-drop}
+use Rattle.std.proofs.lemmas.List.{drop-drop, length-drop}
 use Rattle.std.proofs.Math.Seq.{drop-nil}
 use Rattle.hr_pattern.specs.Covers.{AfterRun, AfterOne, Covers}
 
@@ -152,3 +152,13 @@ walk_ends is_star Meets signs things behind tried asked left none walk =
       λ h. end.sound (inl h),
       λ h. elim (end.found h) [ inl g ↦ g | inr g ↦ subst (Covers is_star Meets asked) (drop-nil (suc g.0)) (end.newest (suc g.0) g.1) ],
     )
+
+-- going back one thing later, the measure of the walk falls
+falls : (tried most asked behind : ℕ) → behind ≤ most → tried * (most + 1) + behind < (tried + 1) * (most + 1) + asked
+falls tried most asked behind h = omega arith
+
+pub walk_falls : {S T : Type 0} (is_star : S → Bool) (Meets : S → T → Type 0) (signs : List S) (things : List T) (behind : List S) (tried : List T) (asked : List S) (left : List T) (t : T) (ts later : List T) (again : List S) → left ≡ t ∷ ts → later ≡ drop 1 tried → again ≡ behind → Walk is_star Meets signs things behind tried asked left → length later * (length signs + 1) + length again < length tried * (length signs + 1) + length asked
+walk_falls is_star Meets signs things behind tried asked left t ts later again there is same walk =
+    let one : length tried ≡ length later + 1 = omega (arith, ap length there, ap length is, length-drop 1 tried, walk.shorter) in
+    let part : length again ≤ length signs = omega (arith, ap length same, walk.part_behind) in
+    rw one (falls (length later) (length signs) (length asked) (length again) part)

@@ -1,4 +1,3 @@
-pub mod AnyLemmas
 pub mod FaultLemmas
 pub mod CoversLemmas
 pub mod FormLemmas

@@ -14,11 +14,15 @@ cond_is_none true n e = absurd (cc)
 cond_is_none false n e = refl
 
 -- where an item passes, the first part ends before it
-pub split_some : {X : Type 0} (p : X → Bool) (xs : List X) (d : X) (i : ℕ) → position p xs ≡ Some i → slice_split p xs ≡ take i xs ∷ slice_split p (drop (i + 1) xs)
-split_some p xs d i e =
+split_at : {X : Type 0} (p : X → Bool) (xs : List X) (d : X) (i : ℕ) → position p xs ≡ Some i → slice_split p xs ≡ take i xs ∷ slice_split p (drop (i + 1) xs)
+split_at p xs d i e =
     let found = cond_is_some (nat_lt (position_or_len p xs) (length xs)) (position_or_len p xs) i e in
     let first = slice_split_first p xs d (ltb-true _ _ found.0) in
     subst (λ (n : ℕ). slice_split p xs ≡ take n xs ∷ slice_split p (drop (n + 1) xs)) found.1 first
+
+pub split_some : {X : Type 0} (p : X → Bool) (xs : List X) (i : ℕ) → position p xs ≡ Some i → slice_split p xs ≡ take i xs ∷ slice_split p (drop (i + 1) xs)
+split_some p [] i e = absurd (cc)
+split_some p (x ∷ xs) i e = split_at p (x ∷ xs) x i e
 
 -- where none passes, there is one part
 pub split_none : {X : Type 0} (p : X → Bool) (xs : List X) → position p xs ≡ None → slice_split p xs ≡ xs ∷ []

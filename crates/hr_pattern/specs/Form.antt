@@ -1,16 +1,15 @@
 -- The expanded forms of a pattern, and which texts fit them. (Our own.)
-use Rattle.std.specs.Prelude.{◌≡◌, ℕ, ◌*◌, Bool, false, ◌==◌, nat_lt, if◌then◌else◌, List, [], ◌∷◌, ◌++◌, length, map, Option, Some, None, Any}
+use Rattle.std.specs.Prelude.{◌≡◌, ℕ, ◌*◌, nat_lt, if◌then◌else◌, List, [], ◌∷◌, ◌++◌, length, map, Option, Some, None, Any}
 use Rattle.std.specs.List.{flat_map, slice_split}
 use Rattle.std.specs.Option.{option_or}
 use Rattle.hr_pattern.specs.declared.item.Item.{Item}
-use Rattle.hr_pattern.specs.declared.item.Item.TheVariants.{Byte, Any as any_run, One}
 use Rattle.hr_pattern.specs.declared.part.Part.{Part}
 use Rattle.hr_pattern.specs.declared.part.Reading.{Reading}
 use Rattle.hr_pattern.specs.declared.refusal.PatternRefused.{PatternRefused}
 use Rattle.hr_pattern.specs.declared.refusal.PatternRefused.TheVariants.{At}
 use Rattle.hr_pattern.specs.declared.refusal.Why.TheVariants.{Long, Many}
 use Rattle.hr_pattern.specs.Component.{components}
-use Rattle.hr_pattern.specs.Item.{CoversPath}
+use Rattle.hr_pattern.specs.Item.{CoversPath, is_slash}
 use Rattle.hr_pattern.specs.Reading.{outside}
 use Rattle.hr_pattern.specs.Sign.{signs_from}
 
@@ -45,12 +44,6 @@ fault_of text =
 unfoldable pub forms_of : List ℕ → List (List Item)
 forms_of text = forms (reading_of text).parts
 
--- a plain byte `/`
-abbrev pub is_slash : Item → Bool
-is_slash (Byte byte) = byte == 47
-is_slash any_run = false
-is_slash One = false
-
 -- an expanded form covers a text component by component, both cut at the byte `/`
 abbrev pub FormCovers : List ℕ → List Item → Type 0
 FormCovers text form = CoversPath (slice_split is_slash form) (components text)
@@ -59,7 +52,7 @@ FormCovers text form = CoversPath (slice_split is_slash form) (components text)
 abbrev pub Fits : List ℕ → List ℕ → Type 0
 Fits pattern text = Any (FormCovers text) (forms_of pattern)
 
--- a text that has no fault, and its expanded forms, each cut into components
-pub record IsRead (text : List ℕ) (cut : List (List (List Item))) : Type 0 where
+-- a text that has no fault, and its expanded forms
+pub record IsRead (text : List ℕ) (made : List (List Item)) : Type 0 where
   pub sound : fault_of text ≡ None
-  pub forms : cut ≡ map (slice_split is_slash) (forms_of text)
+  pub forms : made ≡ forms_of text

@@ -1,5 +1,5 @@
 -- What the items of an expanded form cover. (Our own.)
-use Rattle.std.specs.Prelude.{◌≡◌, ℕ, Bool, true, false, List, [], ◌∷◌}
+use Rattle.std.specs.Prelude.{◌≡◌, ℕ, Bool, true, false, ◌==◌, List, [], ◌∷◌}
 use Rattle.hr_pattern.specs.declared.item.Item.{Item}
 use Rattle.hr_pattern.specs.declared.item.Item.TheVariants.{Byte, Any, One}
 use Rattle.hr_pattern.specs.Covers.{Covers}
@@ -9,6 +9,12 @@ abbrev pub is_any : Item → Bool
 is_any Any = true
 is_any One = false
 is_any (Byte byte) = false
+
+-- a plain byte `/`
+abbrev pub is_slash : Item → Bool
+is_slash (Byte byte) = byte == 47
+is_slash Any = false
+is_slash One = false
 
 -- a plain byte meets itself alone, and One meets every byte
 abbrev pub MeetsByte : Item → ℕ → Type 0

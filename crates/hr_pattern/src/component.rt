@@ -1,37 +1,56 @@
-//! The components of a text, which `/` separates.
+//! The components of a text and of an expanded form, which `/` separates.
 ghost use Rattle.std.specs.Prelude.{◌≡◌, [], MatchOption, ◌==◌, drop, position};
-ghost use Rattle.std.specs.List.{IsFirstAndRest};
-ghost use Rattle.hr_pattern.specs.Component.{components};
+ghost use Rattle.std.specs.List.{slice_split, IsFirstAndRest};
 
 use std::marker::Model;
 
-/// The components of a text that are left to come.
-#[derive(Drop)]
-pub struct Components<'a> {
-    left: Option<&'a [u8]>,
+/// What a list is made of that is cut into components.
+pub trait Separated {
+    ghost use Rattle.std.specs.Prelude.{Bool};
+
+    /// Whether it separates two components.
+    ghost is_slash: { Self → Bool };
+
+    /// Whether it separates two components.
+    fn is_slash(&self) -> bool
+        ensures { result ≡ is_slash self.now };
 }
 
-impl<'a> Model for Components<'a> {
-    ghost use Rattle.std.specs.Prelude.{List, ℕ};
+impl Separated for u8 {
+    ghost is_slash = { λ byte. byte == 47 };
 
-    ghost Value = { List (List ℕ) };
+    fn is_slash(&self) -> bool {
+        *self == b'/'
+    }
+}
+
+/// The components of a list that are left to come.
+#[derive(Drop)]
+pub struct Components<'a, T: Separated> {
+    left: Option<&'a [T]>,
+}
+
+impl<'a, T: Separated> Model for Components<'a, T> {
+    ghost use Rattle.std.specs.Prelude.{List};
+
+    ghost Value = { List (List T) };
 
     ghost use Rattle.std.specs.Option.{option_copied};
     ghost use Rattle.hr_pattern.specs.Component.{components_left};
 
-    ghost view = { λ c. components_left (option_copied c.left) };
+    ghost view = { λ c. components_left T.is_slash (option_copied c.left) };
 }
 
-impl<'a> Components<'a> {
-    /// All components of a text, of which there is at least one.
-    pub fn of(text: &'a [u8]) -> Components<'a>
-        ensures { result ≡ components text.now }
+impl<'a, T: Separated> Components<'a, T> {
+    /// All components of a list, of which there is at least one.
+    pub fn of(whole: &'a [T]) -> Components<'a, T>
+        ensures { result ≡ slice_split T.is_slash whole.now }
     {
-        Components { left: Some(text) }
+        Components { left: Some(whole) }
     }
 
     /// The first component, and those behind it.
-    pub fn split_first(&self) -> Option<(&'a [u8], Components<'a>)>
+    pub fn split_first(&self) -> Option<(&'a [T], Components<'a, T>)>
         ensures { MatchOption result (self.now ≡ []) (λ p. IsFirstAndRest self.now p.0.now p.1) }
     {
         let left = self.left?;
@@ -45,7 +64,7 @@ impl<'a> Components<'a> {
     }
 
     /// The components behind the first, or none where there are none.
-    pub fn behind_first(&self) -> Components<'a>
+    pub fn behind_first(&self) -> Components<'a, T>
         ensures { result ≡ drop 1 self.now }
     {
         match self.split_first() {
@@ -55,15 +74,15 @@ impl<'a> Components<'a> {
     }
 
     /// The same components.
-    pub fn again(&self) -> Components<'a>
+    pub fn again(&self) -> Components<'a, T>
         ensures { result ≡ self.now }
     {
         Components { left: self.left }
     }
 }
 
-fn first_slash(bytes: &[u8]) -> Option<usize>
-    ensures { result ≡ position (λ byte. byte == 47) bytes.now }
+fn first_slash<T: Separated>(whole: &[T]) -> Option<usize>
+    ensures { result ≡ position T.is_slash whole.now }
 {
-    bytes.iter().position(|byte| *byte == b'/')
+    whole.iter().position(|thing| thing.is_slash())
 }

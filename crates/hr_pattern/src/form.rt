@@ -1,7 +1,6 @@
-//! The expanded forms of a pattern, of which each is cut into components.
-ghost use Rattle.std.specs.Prelude.{◌≡◌, ◌≤◌, ◌++◌, length, map, position, IfOk, OnOk};
-ghost use Rattle.std.specs.List.{slice_split};
-ghost use Rattle.hr_pattern.specs.Form.{forms, joined, too_many, is_slash};
+//! The expanded forms of a pattern.
+ghost use Rattle.std.specs.Prelude.{◌≡◌, ◌++◌, map, IfOk, OnOk};
+ghost use Rattle.hr_pattern.specs.Form.{forms, joined, too_many};
 
 use crate::item::Item;
 use crate::part::Part;
@@ -102,37 +101,4 @@ fn copied(alloc: Global, items: &[Item]) -> Result<List<Item>, Memory>
     let mut made = List::new(alloc);
     extend(&mut made, items)?;
     Ok(made)
-}
-
-/// Each form, cut into components.
-pub fn cut_each(alloc: Global, made: &[List<Item>]) -> Result<List<List<List<Item>>>, Memory>
-    ensures { IfOk result (λ cut. cut ≡ map (slice_split is_slash) made.now) }
-{
-    let mut cut = List::new(alloc);
-    for form in made {
-        cut.push(components_of(alloc, form.view())?)?;
-    }
-    Ok(cut)
-}
-
-/// The components of a form, which plain bytes `/` separate.
-fn components_of(alloc: Global, form: &[Item]) -> Result<List<List<Item>>, Memory>
-    ensures { IfOk result (λ cut. cut ≡ slice_split is_slash form.now) }
-{
-    let mut cut = List::new(alloc);
-    let mut left = form;
-    while let Some(end) = first_slash(left) {
-        cut.push(copied(alloc, &left[..end])?)?;
-        left = &left[end + 1..];
-    }
-    cut.push(copied(alloc, left)?)?;
-    Ok(cut)
-}
-
-fn first_slash(items: &[Item]) -> Option<usize>
-    ensures { result ≡ position is_slash items.now }
-{
-    items
-        .iter()
-        .position(|item| matches!(item, Item::Byte(b'/')))
 }

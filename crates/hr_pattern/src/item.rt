@@ -1,6 +1,8 @@
 //! What an expanded form of a pattern is made of, and what each item covers. (Our own.)
 ghost use Rattle.std.specs.Prelude.{◌≡◌, ◌↔◌, IsTrue};
 
+use crate::component::Separated;
+
 /// One item of an expanded form.
 #[derive(Clone, Copy, Debug, PartialEq, Eq)]
 pub enum Item {
@@ -31,5 +33,15 @@ impl Item {
             Item::One => true,
             Item::Any => false,
         }
+    }
+}
+
+impl Separated for Item {
+    ghost use Rattle.hr_pattern.specs.Item.{is_slash};
+
+    ghost is_slash = { is_slash };
+
+    fn is_slash(&self) -> bool {
+        matches!(self, Item::Byte(b'/'))
     }
 }

@@ -79,10 +79,10 @@ fn read_part(
 fn lone(alloc: Global, at: u32, item: Item) -> Result<Part, Memory>
     ensures { IfOk result (λ part. part ≡ record { at = at; choices = (item ∷ []) ∷ [] }) }
 {
-    let mut items = List::new(alloc);
-    items.push(item)?;
+    let mut choice = List::new(alloc);
+    choice.push(item)?;
     let mut choices = List::new(alloc);
-    choices.push(items)?;
+    choices.push(choice)?;
     Ok(Part { at, choices })
 }
 

@@ -9,7 +9,7 @@ ghost use Rattle.std.specs.Cmp.Lexicographic.{nat_list_eq_equiv, pointwise};
 ghost use Rattle.hr_pattern.specs.Form.{Fits, fault_of};
 ghost use Rattle.hr_pattern.specs.Reading.{UnlessMemory};
 
-use crate::form::{cut_each, expand, refused_as_many};
+use crate::form::{expand, refused_as_many};
 use crate::item::Item;
 use crate::part::read_parts;
 use crate::path::some_covers;
@@ -26,7 +26,7 @@ pub const LIMIT: usize = 1024;
 #[derive(Debug, Drop)]
 pub struct Pattern {
     text: Bytes,
-    forms: List<List<List<Item>>>,
+    forms: List<List<Item>>,
 }
 
 impl Model for Pattern {
@@ -43,7 +43,7 @@ impl Model for Pattern {
 
 impl Pattern {
     /// Reads a pattern of at most `LIMIT` bytes, with at most `FORMS_LIMIT` expanded forms. It
-    /// takes at most some 600,000 bytes of memory.
+    /// keeps the expanded forms, none of which has more items than the text has bytes.
     pub fn read(alloc: Global, text: &[u8]) -> Result<Pattern, PatternRefused>
         ensures ok { OnOk result (fault_of text.now ≡ None) }
         ensures text { IfOk result (λ pattern. pattern ≡ text.now) }
@@ -63,14 +63,14 @@ impl Pattern {
         if let Some(refused) = reading.fault {
             return Err(refused);
         }
-        let made = expand(alloc, reading.parts.view())?;
-        let forms = cut_each(alloc, made.as_slice())?;
+        let forms = List::from(expand(alloc, reading.parts.view())?);
         let text = Bytes::of(alloc, text)?;
         Ok(Pattern { text, forms })
     }
 
-    /// Whether a text fits. It takes no memory. For each expanded form it compares each item with
-    /// each byte at most once, so that the time is within the product of their numbers.
+    /// Whether a text fits. It takes no memory. For one expanded form it compares each item with
+    /// each byte at most once, so that its time is within the length of the pattern times the
+    /// length of the text.
     pub fn fits(&self, text: &[u8]) -> bool
         ensures { IsTrue result ↔ Fits self.now text.now }
     {
@@ -110,3 +110,8 @@ impl PartialEq for Pattern {
 impl Eq for Pattern {
     ghost laws = { nat_list_eq_equiv };
 }
+
+#[cfg(test)]
+mod slow;
+#[cfg(test)]
+mod tests;

@@ -1,6 +1,5 @@
-use Rattle.std.proofs.Common.{◌≡◌, ◌∙◌, ap, sym, Some, None, map}
-use Rattle.std.specs.List.{slice_split}
-use Rattle.hr_pattern.specs.Form.{fault_of, forms_of, forms, is_slash, reading_of, too_many}
+use Rattle.std.proofs.Common.{◌≡◌, ◌∙◌, ap, sym, Some, None}
+use Rattle.hr_pattern.specs.Form.{fault_of, forms_of, forms, reading_of, too_many}
 use Rattle.hr_pattern.specs.Reading.{outside}
 use Rattle.hr_pattern.proofs.FaultLemmas.{unless, long, many, other, expanded}
 use Rattle.hr_pattern.proofs.pattern.Pattern.read.Goals as goal
@@ -22,10 +21,10 @@ pub invariant_of-result : goal.invariant_of-result
 invariant_of-result c =
     let is : c.in_ok-reading.reading ≡ reading_of c.args.text.now = c.in_ok-reading.ensures ∙ ap outside (c.view.ensures ∙ c.in_ok-signs.ensures) in
     let sound : fault_of c.args.text.now ≡ None = other c.args.text.now c.in_ok-reading.reading None c.if-text-gt-LIMIT.false is (sym (c.refused_as_many.ensures ∙ ap (too_many 1) c.view-2.ensures) ∙ c.in_default.is) c.in_default-fault.is in
-    let made : c.in_ok-made.made.items ≡ forms_of c.args.text.now = c.in_ok-made.ensures ∙ ap forms c.view-3.ensures ∙ expanded c.args.text.now c.in_ok-reading.reading is in
+    let made : c.in_ok-expand.field-0.items ≡ forms_of c.args.text.now = c.in_ok-expand.ensures ∙ ap forms c.view-3.ensures ∙ expanded c.args.text.now c.in_ok-reading.reading is in
     record {
       sound = ap fault_of c.in_ok-text.ensures ∙ sound;
-      forms = c.in_ok-forms.ensures ∙ ap (map (slice_split is_slash)) (c.as_slice.ensures.value ∙ made ∙ sym (ap forms_of c.in_ok-text.ensures));
+      forms = c.from-forms.ensures ∙ made ∙ sym (ap forms_of c.in_ok-text.ensures);
     }
 
 pub returns-clause-ok : goal.returns-clause-ok
