@@ -14,4 +14,7 @@ AfterOne Meets Left (thing ∷ things) = Meets thing × Left things
 -- other sign covers one thing that it meets.
 abbrev pub Covers : {S T : Type 0} → (S → Bool) → (S → T → Type 0) → List S → List T → Type 0
 Covers is_star Meets [] things = things ≡ []
-Covers is_star Meets (sign ∷ signs) things = MatchBool (is_star sign) (AfterRun (Covers is_star Meets signs) things) (AfterOne (Meets sign) (Covers is_star Meets signs) things)
+Covers is_star Meets (sign ∷ signs) things =
+    MatchBool (is_star sign)
+    (AfterRun (Covers is_star Meets signs) things)
+    (AfterOne (Meets sign) (Covers is_star Meets signs) things)

@@ -30,6 +30,10 @@ pub data Group : Type 0 where
   Broken : PatternRefused → Group
   Whole : List (List Item) → Reading → Group
 
+-- an item outside a group, as the first part
+abbrev pub with_lone : ℕ → Item → Reading → Reading
+with_lone at item rest = with_part (record { at = at; choices = (item ∷ []) ∷ [] }) rest
+
 -- the group whose `{` stands at a place, as the first part
 abbrev pub with_group : ℕ → Group → Reading
 with_group at (Broken fault) = stopped fault
@@ -50,8 +54,8 @@ abbrev mutual
   outside [] = record { parts = []; fault = None }
   outside (placed ∷ signs) =
       elim (placed.sign) [
-        | Stands item ↦ with_part (record { at = placed.at; choices = (item ∷ []) ∷ [] }) (outside signs)
-        | Comma ↦ with_part (record { at = placed.at; choices = (Byte 44 ∷ []) ∷ [] }) (outside signs)
+        | Stands item ↦ with_lone placed.at item (outside signs)
+        | Comma ↦ with_lone placed.at (Byte 44) (outside signs)
         | Open ↦ with_group placed.at (inside placed.at signs)
         | Close ↦ stopped (At placed.at Stray)
         | Wrong why ↦ stopped (At placed.at why)

@@ -21,9 +21,12 @@ abbrev mutual
   -- the signs of a text that begins at a place
   pub signs_from : ℕ → List ℕ → List Placed
   signs_from at [] = []
-  signs_from at (byte ∷ bytes) = if byte == 92 then escaped_from at bytes else (record { at = at; sign = sign_of byte } ∷ signs_from (at + 1) bytes)
+  signs_from at (byte ∷ bytes) =
+      if byte == 92 then escaped_from at bytes else
+      (record { at = at; sign = sign_of byte } ∷ signs_from (at + 1) bytes)
 
   -- those of the bytes behind a `\`, which stands at a place
   pub escaped_from : ℕ → List ℕ → List Placed
   escaped_from at [] = record { at = at; sign = Wrong Escape } ∷ []
-  escaped_from at (byte ∷ bytes) = record { at = at; sign = Stands (Byte byte) } ∷ signs_from (at + 2) bytes
+  escaped_from at (byte ∷ bytes) =
+      record { at = at; sign = Stands (Byte byte) } ∷ signs_from (at + 2) bytes

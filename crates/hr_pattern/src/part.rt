@@ -1,6 +1,7 @@
 //! The parts of a pattern: its items and its groups of alternatives, up to the first fault.
 ghost use Rattle.std.specs.Prelude.{◌≡◌, ◌≤◌, [], ◌∷◌, length, IfOk, IfErr};
-ghost use Rattle.hr_pattern.specs.Reading.{outside, inside, with_part, stopped, Whole, Broken, UnlessMemory};
+ghost use Rattle.hr_pattern.specs.Reading.{outside, inside, with_part, stopped, Whole, Broken};
+ghost use Rattle.hr_pattern.specs.Reading.{UnlessMemory};
 
 use crate::item::Item;
 use crate::refusal::{PatternRefused, Why};
