@@ -1,3 +1,4 @@
+pub mod EscapeLemmas
 pub mod FaultLemmas
 pub mod CoversLemmas
 pub mod FormLemmas

@@ -30,3 +30,8 @@ abbrev mutual
   escaped_from at [] = record { at = at; sign = Wrong Escape } ∷ []
   escaped_from at (byte ∷ bytes) =
       record { at = at; sign = Stands (Byte byte) } ∷ signs_from (at + 2) bytes
+
+-- a text with a `\` before each byte
+abbrev pub escaped : List ℕ → List ℕ
+escaped [] = []
+escaped (byte ∷ text) = 92 ∷ byte ∷ escaped text

@@ -4,6 +4,7 @@
 
 mod component;
 mod covering;
+mod escaping;
 mod form;
 mod item;
 mod part;
@@ -12,6 +13,7 @@ mod pattern;
 mod refusal;
 mod sign;
 
+pub use escaping::escaped_texts_are_fitted_alone;
 pub use form::FORMS_LIMIT;
 pub use pattern::{LIMIT, Pattern};
 pub use refusal::{PatternRefused, Why};
