@@ -1,0 +1,6 @@
+pub mod EscapeLemmas
+pub mod FaultLemmas
+pub mod CoversLemmas
+pub mod FormLemmas
+pub mod ReadingLemmas
+pub mod SplitLemmas

@@ -1,0 +1,20 @@
+-- How a list of signs covers a list of things, in order. (Our own.)
+use Rattle.std.specs.Prelude.{◌≡◌, ℕ, Bool, List, [], ◌∷◌, drop, MatchBool}
+
+-- what is left of the things behind some run of them, also none, meets this
+abbrev pub AfterRun : {T : Type 0} → (List T → Type 0) → List T → Type 0
+AfterRun Left things = (n : ℕ) × Left (drop n things)
+
+-- the first thing meets the one fact, and what is left behind it the other
+abbrev pub AfterOne : {T : Type 0} → (T → Type 0) → (List T → Type 0) → List T → Type 0
+AfterOne Meets Left [] = ⊥
+AfterOne Meets Left (thing ∷ things) = Meets thing × Left things
+
+-- The signs cover the things: a sign that is a star covers any run of things, also none, and any
+-- other sign covers one thing that it meets.
+abbrev pub Covers : {S T : Type 0} → (S → Bool) → (S → T → Type 0) → List S → List T → Type 0
+Covers is_star Meets [] things = things ≡ []
+Covers is_star Meets (sign ∷ signs) things =
+    MatchBool (is_star sign)
+    (AfterRun (Covers is_star Meets signs) things)
+    (AfterOne (Meets sign) (Covers is_star Meets signs) things)
