@@ -2,3 +2,4 @@ pub mod Field
 pub mod Reading
 pub mod Cron
 pub mod Steps
+pub mod Periodic

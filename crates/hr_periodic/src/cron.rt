@@ -7,7 +7,7 @@ use hr_base::Moment;
 use jiff_core::civil::Date;
 
 /// The last moment, in the year 9987. A later one counts as this.
-const LAST_MOMENT: u64 = 253_000_000_000;
+pub(crate) const LAST_MOMENT: u64 = 253_000_000_000;
 
 /// How far after a moment its next match may be: 3,000 days, in seconds.
 const HORIZON: u64 = 259_200_000;

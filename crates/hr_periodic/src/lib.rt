@@ -3,7 +3,9 @@
 
 mod cron;
 mod field;
+mod periodic;
 mod reading;
 
 pub use cron::{Cron, CronRefused};
 pub use field::Field;
+pub use periodic::Periodic;
