@@ -7,7 +7,7 @@ use Rattle.std.proofs.lemmas.List.Elements.{recursion_from_All}
 use Rattle.hr_base.specs.declared.number.PolicyNo.{PolicyNo}
 use Rattle.hr_base.specs.declared.number.Moment.{Moment}
 use Rattle.hr_periodic.specs.declared.cron.Cron.{Cron}
-use Rattle.hr_periodic.specs.Cron.{IsNext, HasNoNext}
+use Rattle.hr_periodic.specs.Cron.{IsNextMatch, HasNoNextMatch}
 use Rattle.hr_periodic.specs.Periodic.{Ascends, Fires, AreDue}
 
 abbrev number_of : {X : Type 0} → PolicyNo × X → ℕ
@@ -22,12 +22,12 @@ Ascends-from_sorted (x ∷ xs) h = (
 )
 
 -- a next match that is after now is later than now, and so is any other
-pub later_next : (cron : Cron) (after now found : ℕ) → IsNext cron after found → now < found → (next : ℕ) → IsNext cron after next → now < next
+pub later_next : (cron : Cron) (after now found : ℕ) → IsNextMatch cron after found → now < found → (next : ℕ) → IsNextMatch cron after next → now < next
 later_next cron after now found is far next other =
     let least = is.least next other.above other.matches in
     omega arith
 
-pub no_next : (cron : Cron) (after now : ℕ) → HasNoNext cron after → (next : ℕ) → IsNext cron after next → now < next
+pub no_next : (cron : Cron) (after now : ℕ) → HasNoNextMatch cron after → (next : ℕ) → IsNextMatch cron after next → now < next
 no_next cron after now none next other = absurd (none next other.above other.within other.matches)
 
 -- a loop's step: one more policy was asked

@@ -9,7 +9,8 @@ use Rattle.hr_periodic.specs.declared.reading.Limits.{Limits}
 use Rattle.hr_periodic.specs.declared.cron.Cron.{Cron}
 use Rattle.hr_periodic.specs.declared.cron.CronRefused.{CronRefused}
 use Rattle.hr_periodic.specs.declared.cron.CronRefused.TheVariants.{Field as BadField}
-use Rattle.hr_periodic.specs.Reading.{cut_at, parts, parts_left, limits_of, first_fault, fault_of, HasFault, StandsFor}
+use Rattle.hr_periodic.specs.Item.{cut_at}
+use Rattle.hr_periodic.specs.Reading.{space, parts, parts_left, limits_of, first_fault, fault_of, HasFault, StandsFor}
 
 -- the parts are the one before the cut and those of the text after it
 pub parts-cut_at : (byte : ℕ) (text : List ℕ) → parts byte text ≡ (cut_at byte text).0 ∷ parts_left byte (cut_at byte text).1
@@ -100,13 +101,13 @@ abbrev pub after_1 : List Limits
 after_1 = limits_of 0 59 ∷ after_2
 
 -- after the sixth field nothing is left, or a seventh one
-pub nothing_left : (rest : Option (Bor (List ℕ))) → is_some rest ≡ false → parts_left 32 (option_copied rest) ≡ []
+pub nothing_left : (rest : Option (Bor (List ℕ))) → is_some rest ≡ false → parts_left space (option_copied rest) ≡ []
 nothing_left None e = refl
 nothing_left (Some text) e = absurd (false≢true (sym e))
 
-pub seventh_left : (rest : Option (Bor (List ℕ))) → is_some rest ≡ true → first_fault [] 7 (parts_left 32 (option_copied rest)) ≡ Some 7
+pub seventh_left : (rest : Option (Bor (List ℕ))) → is_some rest ≡ true → first_fault [] 7 (parts_left space (option_copied rest)) ≡ Some 7
 seventh_left None e = absurd (false≢true e)
-seventh_left (Some text) e = ap (first_fault [] 7) (parts-cut_at 32 text.now)
+seventh_left (Some text) e = ap (first_fault [] 7) (parts-cut_at space text.now)
 
 -- where the fault is known, this is the refusal
 pub refused_exit : (text : List ℕ) (r : Result Cron CronRefused) (number : ℕ) (why : CronRefused) → r ≡ Err why → why ≡ BadField number → fault_of text ≡ Some number → (IfOk r (StandsFor text)) × (IsOk r ↔ (fault_of text ≡ None)) × (IfErr r (HasFault text))

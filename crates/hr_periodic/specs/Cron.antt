@@ -37,13 +37,13 @@ abbrev pub counted : ℕ → ℕ
 counted moment = min moment 253_000_000_000
 
 -- the least match after a moment, which is at most 3,000 days after it
-pub record IsNext (cron : Cron) (after next : ℕ) : Type 0 where
+pub record IsNextMatch (cron : Cron) (after next : ℕ) : Type 0 where
   pub above : after < next
   pub within : next ≤ after + 259_200_000
   pub matches : Matches cron next
   pub least : (moment : ℕ) → after < moment → Matches cron moment → next ≤ moment
 
 -- there is no match in the 3,000 days after a moment
-abbrev pub HasNoNext : Cron → ℕ → Type 0
-HasNoNext cron after =
+abbrev pub HasNoNextMatch : Cron → ℕ → Type 0
+HasNoNextMatch cron after =
     (moment : ℕ) → after < moment → moment ≤ after + 259_200_000 → ¬ Matches cron moment

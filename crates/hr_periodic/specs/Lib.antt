@@ -1,4 +1,5 @@
 pub mod Field
+pub mod Item
 pub mod Reading
 pub mod Cron
 pub mod Steps

@@ -4,7 +4,7 @@ use Rattle.std.specs.List.{AllByRecursion}
 use Rattle.hr_base.specs.declared.number.PolicyNo.{PolicyNo}
 use Rattle.hr_base.specs.declared.number.Moment.{Moment}
 use Rattle.hr_periodic.specs.declared.cron.Cron.{Cron}
-use Rattle.hr_periodic.specs.Cron.{IsNext}
+use Rattle.hr_periodic.specs.Cron.{IsNextMatch}
 
 -- policies with their schedules, and the moment up to which they were asked
 pub record Asked : Type 0 where
@@ -20,8 +20,8 @@ Ascends (x ∷ xs) = AllByRecursion (λ y. x.0.0 ≤ y.0.0) xs × Ascends xs
 abbrev pub Fires : ℕ → ℕ → Cron → Option Moment → Type 0
 Fires moment now cron fired =
     MatchOption fired
-    ((next : ℕ) → IsNext cron moment next → now < next)
-    (λ next. IsNext cron moment next.0 × (next.0 ≤ now))
+    ((next : ℕ) → IsNextMatch cron moment next → now < next)
+    (λ next. IsNextMatch cron moment next.0 × (next.0 ≤ now))
 
 -- a policy is due where its schedule fires, and then come those that the others leave
 pub record DueFirst (moment now : ℕ) (Others : List (PolicyNo × Moment) → Type 0) (entry : PolicyNo × Cron) (due : List (PolicyNo × Moment)) : Type 0 where

@@ -42,7 +42,7 @@ pub struct Cron {
 }
 
 impl Cron {
-    ghost use Rattle.hr_periodic.specs.Cron.{counted, days_fit, fits_date, HasNoNext, IsNext};
+    ghost use Rattle.hr_periodic.specs.Cron.{counted, days_fit, fits_date, HasNoNextMatch, IsNextMatch};
     ghost use Rattle.hr_periodic.specs.Reading.{fault_of, HasFault, StandsFor};
     ghost use Rattle.hr_periodic.specs.Steps.{Searches, fits_hour, fits_day, DayFits, IsFirst, NoMatch};
 
@@ -85,8 +85,8 @@ impl Cron {
     /// The least match after a moment, at most 3,000 days after it. It takes no memory.
     /// A moment after the last one, 253,000,000,000, counts as that.
     pub fn next(&self, after: Moment) -> Option<Moment>
-        ensures some { IfSome result (λ next. IsNext self.now (counted after.0) next.0) }
-        ensures none { IfNone result (HasNoNext self.now (counted after.0)) }
+        ensures found { IfSome result (λ next. IsNextMatch self.now (counted after.0) next.0) }
+        ensures absent { IfNone result (HasNoNextMatch self.now (counted after.0)) }
     {
         let after = after.0.min(LAST_MOMENT);
         let last = after + HORIZON;
@@ -107,8 +107,8 @@ impl Cron {
     // The first match of the moment's day, from the moment on.
     fn first_in_day(&self, moment: u64) -> Option<u64>
         requires { moment < 253_402_300_800 }
-        ensures some { IfSome result (λ found. IsFirst self.now moment found) }
-        ensures none { IfNone result (NoMatch self.now moment ((moment / 86_400 + 1) * 86_400)) }
+        ensures found { IfSome result (λ found. IsFirst self.now moment found) }
+        ensures absent { IfNone result (NoMatch self.now moment ((moment / 86_400 + 1) * 86_400)) }
     {
         let day = moment / DAY;
         if !self.fits_on(day) {
@@ -174,3 +174,6 @@ impl Cron {
         Some(minute as u32 * 60 + second as u32)
     }
 }
+
+#[cfg(test)]
+mod tests;

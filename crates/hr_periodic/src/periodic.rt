@@ -85,3 +85,36 @@ fn due_among(
     }
     Ok(due)
 }
+
+#[cfg(test)]
+mod tests {
+    use super::*;
+
+    #[test]
+    fn missed_moments_are_merged_and_policies_stand_by_number(
+        rt: HostRuntime,
+    ) -> Result<(), Memory> {
+        let alloc = rt.alloc();
+        let mut list = List::new(alloc);
+        for (policy, text) in [(7, "0 0 * * * *"), (5, "0 0 0 30 2 *"), (3, "0 30 1 * * *")] {
+            let cron = Cron::read(text.as_bytes()).expect(&rt, text);
+            list.push((PolicyNo(policy), cron))?;
+        }
+        let mut periodic = Periodic::new(list, Moment(0));
+        let both = [(PolicyNo(3), Moment(5400)), (PolicyNo(7), Moment(3600))];
+        let last = [(PolicyNo(3), Moment(91_800)), (PolicyNo(7), Moment(7200))];
+        let rounds: [(u64, &[(PolicyNo, Moment)]); 6] = [
+            (3599, &[]),
+            (3600, &both[1..]),
+            (7199, &both[..1]),
+            (7100, &[]),
+            (u64::MAX, &last),
+            (u64::MAX, &[]),
+        ];
+        for (now, want) in rounds {
+            let due = periodic.due(alloc, Moment(now))?;
+            assert_eq!(rt; due.view(), want, "at {now}");
+        }
+        Ok(())
+    }
+}

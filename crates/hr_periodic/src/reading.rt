@@ -4,7 +4,8 @@ ghost use Rattle.hr_periodic.specs.declared.field.Field.{Field};
 ghost use Rattle.hr_periodic.specs.declared.cron.CronRefused.{CronRefused};
 ghost use Rattle.hr_periodic.specs.declared.reading.Limits.{Limits};
 ghost use Rattle.hr_periodic.specs.Field.{holds};
-ghost use Rattle.hr_periodic.specs.Reading.{cut_at, digit_of, number_of, number_in, ends_of, is_star, stepped, item_of, covers, parts, parts_left, are_items, have, is_any, is_field, IsField, AreFields, first_fault};
+ghost use Rattle.hr_periodic.specs.Item.{cut_at, digit_of, number_of, number_in, ends_of, is_star, stepped, item_of, covers};
+ghost use Rattle.hr_periodic.specs.Reading.{space, comma, parts, parts_left, are_items, have, is_any, is_field, IsField, AreFields, first_fault};
 
 use crate::cron::CronRefused;
 use crate::field::Field;
@@ -161,10 +162,10 @@ impl Limits {
 
     // Items joined by commas, as the set of their numbers.
     fn list(self, text: &[u8]) -> Option<u64>
-        ensures none { result ≡ None → are_items self (parts 44 text.now) ≡ false }
-        ensures good { IfSome result (λ _. are_items self (parts 44 text.now) ≡ true) }
+        ensures none { result ≡ None → are_items self (parts comma text.now) ≡ false }
+        ensures good { IfSome result (λ _. are_items self (parts comma text.now) ≡ true) }
         ensures numbers { IfSome result (λ numbers. (k : ℕ) → k < 60
-            → holds numbers k ≡ have self (parts 44 text.now) k) }
+            → holds numbers k ≡ have self (parts comma text.now) k) }
     {
         let mut numbers = 0;
         let mut left = text;
@@ -223,15 +224,15 @@ pub(crate) fn take_field(
 ) -> Result<(Field, Option<&[u8]>), CronRefused>
     ensures fault { MatchResult result
         (λ taken. (more : List Limits)
-        → first_fault (limits ∷ more) number (parts_left 32 (option_copied rest.entry))
-        ≡ first_fault more (number + 1) (parts_left 32 (option_copied taken.1)))
+        → first_fault (limits ∷ more) number (parts_left space (option_copied rest.entry))
+        ≡ first_fault more (number + 1) (parts_left space (option_copied taken.1)))
         (λ why. (more : List Limits)
-        → (first_fault (limits ∷ more) number (parts_left 32 (option_copied rest.entry))
+        → (first_fault (limits ∷ more) number (parts_left space (option_copied rest.entry))
         ≡ Some number)
         × (why ≡ CronRefused.Field number)) }
     ensures ok { IfOk result (λ taken. (more : List Limits) (fields : List Field)
-        → AreFields more (parts_left 32 (option_copied taken.1)) fields
-        → AreFields (limits ∷ more) (parts_left 32 (option_copied rest.entry))
+        → AreFields more (parts_left space (option_copied taken.1)) fields
+        → AreFields (limits ∷ more) (parts_left space (option_copied rest.entry))
         (taken.0 ∷ fields)) }
 {
     let Some(text) = rest else {

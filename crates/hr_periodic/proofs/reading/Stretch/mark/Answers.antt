@@ -1,5 +1,5 @@
 use Rattle.std.proofs.Common.{sym, ◌∙◌}
-use Rattle.hr_periodic.specs.Reading.{covers}
+use Rattle.hr_periodic.specs.Item.{covers}
 use Rattle.hr_periodic.proofs.ReadingLemmas.{marked_more, marked_same}
 use Rattle.hr_periodic.proofs.reading.Stretch.mark.Goals as goal
 use Rattle.hr_periodic.proofs.reading.Stretch.mark.Goals.{then-covers, else-covers}

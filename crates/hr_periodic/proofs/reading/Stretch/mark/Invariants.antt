@@ -1,6 +1,6 @@
 use Rattle.std.proofs.Common.{◌≡◌, ℕ, ◌<◌, ◌≤◌, ◌||◌}
 use Rattle.hr_periodic.specs.Field.{holds}
-use Rattle.hr_periodic.specs.Reading.{covers}
+use Rattle.hr_periodic.specs.Item.{covers}
 use Rattle.hr_periodic.proofs.reading.Stretch.mark.Given as goal
 
 -- the numbers so far are marked, and the others are as they were
