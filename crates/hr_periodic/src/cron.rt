@@ -82,8 +82,8 @@ impl Cron {
         *self
     }
 
-    /// The least match after a moment, at most 3,000 days after it. It takes no memory.
-    /// A moment after the last one, 253,000,000,000, counts as that.
+    /// The least match after a moment, at most 3,000 days after it, also past the last moment.
+    /// A moment after the last one, 253,000,000,000, counts as that. It takes no memory.
     pub fn next(&self, after: Moment) -> Option<Moment>
         ensures found { IfSome result (λ next. IsNextMatch self.now (counted after.0) next.0) }
         ensures absent { IfNone result (HasNoNextMatch self.now (counted after.0)) }

@@ -23,7 +23,7 @@ impl Field {
     }
 
     /// The least number that matches, from `low` on and below `high`.
-    pub fn least(self, low: u8, high: u8) -> Option<u8>
+    pub(crate) fn least(self, low: u8, high: u8) -> Option<u8>
         requires { high ≤ 64 }
         ensures { Searches (has self) low high result }
     {
