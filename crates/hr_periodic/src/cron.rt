@@ -1,5 +1,5 @@
 //! Schedules of six fields, and their next matching moment. (Our own, after the fields of cron.)
-ghost use Rattle.std.specs.Prelude.{◌≡◌, ◌+◌, ◌*◌, ◌/◌, ◌<◌, ◌≤◌, IfSome, IfNone, IsOk, IfOk, IfErr, ◌↔◌, None};
+ghost use Rattle.std.specs.Prelude.{◌≡◌, ◌↔◌, ◌+◌, ◌*◌, ◌/◌, ◌<◌, IfSome, IfNone, IsOk, IfOk, IfErr};
 
 use crate::field::Field;
 use crate::reading::{Limits, take_field};
@@ -42,7 +42,7 @@ pub struct Cron {
 }
 
 impl Cron {
-    ghost use Rattle.hr_periodic.specs.Cron.{counted, days_fit, fits_date, HasNoNextMatch, IsNextMatch};
+    ghost use Rattle.hr_periodic.specs.Cron.{counted, days_fit, HasNoNextMatch, IsNextMatch};
     ghost use Rattle.hr_periodic.specs.Reading.{fault_of, HasFault, StandsFor};
     ghost use Rattle.hr_periodic.specs.Steps.{Searches, fits_hour, fits_day, DayFits, IsFirst, NoMatch};
 

@@ -1,5 +1,5 @@
 //! The schedules of policies, and which of them are due. (Our own.)
-ghost use Rattle.std.specs.Prelude.{◌≡◌, ℕ, List, max, IfOk, OnOk, OnErr, IsPermutation};
+ghost use Rattle.std.specs.Prelude.{◌≡◌, max, IfOk, OnOk, OnErr, IsPermutation};
 ghost use Rattle.hr_periodic.specs.Cron.{counted};
 ghost use Rattle.hr_periodic.specs.Periodic.{Ascends, AreDue, Fires};
 

@@ -1,7 +1,6 @@
 //! What the text of one field of a schedule stands for. (Our own, after the fields of cron.)
-ghost use Rattle.std.specs.Prelude.{◌≡◌, ◌+◌, ◌<◌, ◌||◌, ℕ, List, ◌∷◌, true, false, length, option_copied, IfSome, IfOk, MatchResult, Some, None};
+ghost use Rattle.std.specs.Prelude.{◌≡◌, ◌+◌, ◌<◌, ◌||◌, ℕ, List, ◌∷◌, true, false, length, option_copied, IfSome, IfOk, MatchResult};
 ghost use Rattle.hr_periodic.specs.declared.field.Field.{Field};
-ghost use Rattle.hr_periodic.specs.declared.cron.CronRefused.{CronRefused};
 ghost use Rattle.hr_periodic.specs.declared.reading.Limits.{Limits};
 ghost use Rattle.hr_periodic.specs.Field.{holds};
 ghost use Rattle.hr_periodic.specs.Item.{cut_at, digit_of, number_of, number_in, ends_of, is_star, stepped, item_of, covers};
