@@ -1,5 +1,5 @@
 #!/usr/bin/env python3
-"""Makes the rows of `hr_next_match`: moments and schedules, and the next matches that it must print.
+"""Makes the rows of `hr_next_match`: moments, schedules, and the next matches that it must print.
 
 The dates and weekdays are those of Python's datetime. Each day of the 3,000 that follow is looked
 at, and on a day that matches each second, in order. Run it at the top of the repository:
@@ -114,12 +114,14 @@ def rows():
         yield " ".join(fields), chance.choice([edge, chance.randint(0, LAST)])
     for _ in range(40):
         day, month = chance.randint(28, 31), chance.randint(1, 12)
-        yield f"0 {chance.randint(0, 59)} {chance.randint(0, 23)} {day} {month} *", chance.randint(0, LAST)
+        minute, hour = chance.randint(0, 59), chance.randint(0, 23)
+        yield f"0 {minute} {hour} {day} {month} *", chance.randint(0, LAST)
 
 
 def main():
     """Writes the input and the output of the program."""
-    folder = os.path.join(os.path.dirname(os.path.abspath(__file__)), "..", "crates", "hr_next_match")
+    top = os.path.join(os.path.dirname(os.path.abspath(__file__)), "..")
+    folder = os.path.join(top, "crates", "hr_next_match")
     with open(f"{folder}/stdin", "w") as asked, open(f"{folder}/stdout", "w") as told:
         for schedule, after in rows():
             found = next_match(schedule, after)
