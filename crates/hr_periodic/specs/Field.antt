@@ -1,0 +1,12 @@
+-- One field of a schedule: which numbers match in it. (Our own.)
+use Rattle.std.specs.Prelude.{◌==◌, ℕ, Bool}
+use Rattle.std.specs.Int.{bit_at}
+use Rattle.hr_periodic.specs.declared.field.Field.{Field}
+
+-- the number is in a set that is kept as the bits of a number
+abbrev pub holds : ℕ → ℕ → Bool
+holds numbers number = bit_at numbers number == 1
+
+-- the number matches in the field
+abbrev pub has : Field → ℕ → Bool
+has field number = holds field.numbers number

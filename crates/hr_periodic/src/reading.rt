@@ -1,0 +1,245 @@
+//! What the text of one field of a schedule stands for. (Our own, after the fields of cron.)
+ghost use Rattle.std.specs.Prelude.{◌≡◌, ◌+◌, ◌<◌, ◌||◌, ℕ, List, ◌∷◌, true, false, length, option_copied, IfSome, IfOk, MatchResult};
+ghost use Rattle.hr_periodic.specs.declared.field.Field.{Field};
+ghost use Rattle.hr_periodic.specs.declared.reading.Limits.{Limits};
+ghost use Rattle.hr_periodic.specs.Field.{holds};
+ghost use Rattle.hr_periodic.specs.Item.{cut_at, digit_of, number_of, number_in, ends_of, is_star, stepped, item_of, covers};
+ghost use Rattle.hr_periodic.specs.Reading.{space, comma, parts, parts_left, are_items, have, is_any, is_field, IsField, AreFields, first_fault};
+
+use crate::cron::CronRefused;
+use crate::field::Field;
+
+/// The least and the greatest number of a field.
+#[derive(Clone, Copy)]
+pub(crate) struct Limits {
+    pub(crate) low: u8,
+    pub(crate) high: u8,
+}
+
+/// The numbers from one to another by steps.
+#[derive(Clone, Copy)]
+pub(crate) struct Stretch {
+    from: u8,
+    to: u8,
+    step: u8,
+}
+
+impl Stretch {
+    // Whether the number is one of them.
+    fn covers(self, number: u8) -> bool
+        requires { 0 < self.step }
+        ensures { result ≡ covers self number }
+    {
+        self.from <= number && number <= self.to && (number - self.from) % self.step == 0
+    }
+
+    // The numbers that are there already, and those of the stretch.
+    fn mark(self, numbers: u64) -> u64
+        requires { 0 < self.step }
+        ensures { (k : ℕ) → k < 60 → holds result k ≡ (holds numbers k || covers self k) }
+    {
+        let mut marked = numbers;
+        for number in 0..60 {
+            if self.covers(number) {
+                marked |= 1 << number;
+            }
+        }
+        marked
+    }
+}
+
+// The text before the first byte of this kind, and the text after it where there is one.
+fn cut(text: &[u8], byte: u8) -> (&[u8], Option<&[u8]>)
+    ensures before { result.0.now ≡ (cut_at byte text.now).0 }
+    ensures after { option_copied result.1 ≡ (cut_at byte text.now).1 }
+    ensures parts { parts byte text.now ≡ result.0.now ∷ parts_left byte (option_copied result.1) }
+    ensures shorter { IfSome result.1 (λ after. length after.now < length text.now) }
+{
+    for (i, b) in text.iter().enumerate() {
+        if *b == byte {
+            return (&text[..i], Some(&text[i + 1..]));
+        }
+    }
+    (text, None)
+}
+
+fn digit(byte: u8) -> Option<u8>
+    ensures value { result ≡ digit_of byte }
+    ensures bound { IfSome result (λ digit. digit < 10) }
+{
+    if byte.is_ascii_digit() {
+        Some(byte - b'0')
+    } else {
+        None
+    }
+}
+
+// One or two decimal digits.
+fn number(text: &[u8]) -> Option<u8>
+    ensures { result ≡ number_of text.now }
+{
+    match text {
+        [a] => digit(*a),
+        [a, b] => {
+            let tens = digit(*a)?;
+            let ones = digit(*b)?;
+            Some(10 * tens + ones)
+        }
+        _ => None,
+    }
+}
+
+impl Limits {
+    // Such a number within the limits.
+    fn number(self, text: &[u8]) -> Option<u8>
+        ensures { result ≡ number_in self text.now }
+    {
+        let number = number(text)?;
+        if self.low <= number && number <= self.high {
+            Some(number)
+        } else {
+            None
+        }
+    }
+
+    // The numbers of `A` or `A-B`.
+    fn ends(self, text: &[u8]) -> Option<(u8, Option<u8>)>
+        ensures { result ≡ ends_of self text.now }
+    {
+        let (a, b) = cut(text, b'-');
+        let from = self.number(a)?;
+        let Some(b) = b else {
+            return Some((from, None));
+        };
+        let to = self.number(b)?;
+        if from <= to {
+            Some((from, Some(to)))
+        } else {
+            None
+        }
+    }
+
+    // `*/N`, `A-B/N` or `A/N`, without the step.
+    fn stepped(self, head: &[u8], step: u8) -> Option<Stretch>
+        ensures { result ≡ stepped self head.now step }
+    {
+        if is_star(head) {
+            return Some(Stretch {
+                from: self.low,
+                to: self.high,
+                step,
+            });
+        }
+        let (from, to) = self.ends(head)?;
+        Some(Stretch {
+            from,
+            to: to.unwrap_or(self.high),
+            step,
+        })
+    }
+
+    // An item of a list.
+    fn item(self, text: &[u8]) -> Option<Stretch>
+        ensures value { result ≡ item_of self text.now }
+        ensures step { IfSome result (λ stretch. 0 < stretch.step) }
+    {
+        let (head, step) = cut(text, b'/');
+        let Some(step) = step else {
+            let (from, to) = self.ends(head)?;
+            return Some(Stretch {
+                from,
+                to: to.unwrap_or(from),
+                step: 1,
+            });
+        };
+        let step = number(step)?;
+        if step == 0 {
+            return None;
+        }
+        self.stepped(head, step)
+    }
+
+    // Items joined by commas, as the set of their numbers.
+    fn list(self, text: &[u8]) -> Option<u64>
+        ensures none { result ≡ None → are_items self (parts comma text.now) ≡ false }
+        ensures good { IfSome result (λ _. are_items self (parts comma text.now) ≡ true) }
+        ensures numbers { IfSome result (λ numbers. (k : ℕ) → k < 60
+            → holds numbers k ≡ have self (parts comma text.now) k) }
+    {
+        let mut numbers = 0;
+        let mut left = text;
+        loop {
+            let (item, rest) = cut(left, b',');
+            numbers = self.item(item)?.mark(numbers);
+            match rest {
+                Some(rest) => left = rest,
+                None => return Some(numbers),
+            }
+        }
+    }
+
+    // A field.
+    fn field(self, text: &[u8]) -> Option<Field>
+        ensures none { result ≡ None → is_field self text.now ≡ false }
+        ensures some { IfSome result (λ field. IsField self text.now field) }
+    {
+        if is_any(text) {
+            let whole = Stretch {
+                from: self.low,
+                to: self.high,
+                step: 1,
+            };
+            return Some(Field {
+                numbers: whole.mark(0),
+                restricted: false,
+            });
+        }
+        let numbers = self.list(text)?;
+        Some(Field {
+            numbers,
+            restricted: true,
+        })
+    }
+}
+
+fn is_star(text: &[u8]) -> bool
+    ensures { result ≡ is_star text.now }
+{
+    matches!(text, [b'*'])
+}
+
+// Whether the text is `*` or `?`.
+fn is_any(text: &[u8]) -> bool
+    ensures { result ≡ is_any text.now }
+{
+    matches!(text, [b'*' | b'?'])
+}
+
+/// The next field, with this number, of what is left of a schedule's text, and what is left then.
+pub(crate) fn take_field(
+    limits: Limits,
+    number: u8,
+    rest: Option<&[u8]>,
+) -> Result<(Field, Option<&[u8]>), CronRefused>
+    ensures fault { MatchResult result
+        (λ taken. (more : List Limits)
+        → first_fault (limits ∷ more) number (parts_left space (option_copied rest.entry))
+        ≡ first_fault more (number + 1) (parts_left space (option_copied taken.1)))
+        (λ why. (more : List Limits)
+        → (first_fault (limits ∷ more) number (parts_left space (option_copied rest.entry))
+        ≡ Some number)
+        × (why ≡ CronRefused.Field number)) }
+    ensures ok { IfOk result (λ taken. (more : List Limits) (fields : List Field)
+        → AreFields more (parts_left space (option_copied taken.1)) fields
+        → AreFields (limits ∷ more) (parts_left space (option_copied rest.entry))
+        (taken.0 ∷ fields)) }
+{
+    let Some(text) = rest else {
+        return Err(CronRefused::Field { field: number });
+    };
+    let (part, rest) = cut(text, b' ');
+    match limits.field(part) {
+        Some(field) => Ok((field, rest)),
+        None => Err(CronRefused::Field { field: number }),
+    }
+}
