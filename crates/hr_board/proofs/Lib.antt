@@ -1,2 +1,3 @@
 mod MovesLemmas
+mod PlainLemmas
 mod StoppingLemmas

@@ -66,3 +66,30 @@ mark_at-word (At Success) = refl
 -- no two marks have one word
 pub same-word : (m n : Mark) → word_of m ≡ word_of n → m ≡ n
 same-word m n e = sym (mark_at-word m) ∙ ap mark_at e ∙ mark_at-word n
+
+-- a move, by its words
+pub record Steps (m n : ℕ) : Type 0 where
+  pub up : m < n
+  pub valid : n ≤ 6
+  pub unfinished : m < 4
+  pub opening : n ≤ 2 → m ≡ 0
+  pub starting : n ≡ 3 → 1 ≤ m
+  pub ending : 5 ≤ n → m ≡ 3
+
+step : (m n : ℕ) → m < n → n ≤ 6 → m < 4 → (n ≤ 2 → m ≡ 0) → (n ≡ 3 → 1 ≤ m) → (5 ≤ n → m ≡ 3) → Steps m n
+step m n a b c d e f = record { up = a; valid = b; unfinished = c; opening = d; starting = e; ending = f }
+
+pub steps-move : (from to : Mark) → IsMove from to → Steps (word_of from) (word_of to)
+steps-move Unopened Unopened h = absurd h
+steps-move Unopened (At Pending) h = step 0 1 (omega arith) (omega arith) (omega arith) (λ e. refl) (λ e. omega (arith, e)) (λ e. omega (arith, e))
+steps-move Unopened (At Scheduled) h = step 0 2 (omega arith) (omega arith) (omega arith) (λ e. refl) (λ e. omega (arith, e)) (λ e. omega (arith, e))
+steps-move Unopened (At Stopped) h = step 0 4 (omega arith) (omega arith) (omega arith) (λ e. refl) (λ e. omega (arith, e)) (λ e. omega (arith, e))
+steps-move Unopened (At s) h = absurd h
+steps-move (At Pending) (At Running) h = step 1 3 (omega arith) (omega arith) (omega arith) (λ e. omega (arith, e)) (λ e. omega arith) (λ e. omega (arith, e))
+steps-move (At Pending) (At Stopped) h = step 1 4 (omega arith) (omega arith) (omega arith) (λ e. omega (arith, e)) (λ e. omega arith) (λ e. omega (arith, e))
+steps-move (At Scheduled) (At Running) h = step 2 3 (omega arith) (omega arith) (omega arith) (λ e. omega (arith, e)) (λ e. omega arith) (λ e. omega (arith, e))
+steps-move (At Scheduled) (At Stopped) h = step 2 4 (omega arith) (omega arith) (omega arith) (λ e. omega (arith, e)) (λ e. omega arith) (λ e. omega (arith, e))
+steps-move (At Running) (At Stopped) h = step 3 4 (omega arith) (omega arith) (omega arith) (λ e. omega (arith, e)) (λ e. omega (arith, e)) (λ e. omega (arith, e))
+steps-move (At Running) (At Error) h = step 3 5 (omega arith) (omega arith) (omega arith) (λ e. omega (arith, e)) (λ e. omega (arith, e)) (λ e. refl)
+steps-move (At Running) (At Success) h = step 3 6 (omega arith) (omega arith) (omega arith) (λ e. omega (arith, e)) (λ e. omega (arith, e)) (λ e. refl)
+steps-move from to h = absurd h

@@ -107,37 +107,37 @@ passed-none before job attempts h =
       more = [];
       passes = record { within = h; errors = λ r k. absurd (omega (arith, k)) };
       within = λ note k. absurd (omega (arith, k.1));
-      is = ap V (sym (append-nil before.notes))
+      is = ap V (sym (append-nil before.notes));
     }
 
 -- what a call found, seen from before an earlier part of it
 found_before : (before : View) (more other : List (ℕ × ℕ)) (place word : ℕ) → FoundAt (noting before more) other place word
     → FoundAt before (more ++ other) place word
 found_before before more other place word h = record {
-    finds = finds_before before more place word h.finds;
-    noted = Contains-append_right more other (place, word) h.noted
-  }
+  finds = finds_before before more place word h.finds;
+  noted = Contains-append_right more other (place, word) h.noted;
+}
 
 found_longer : (before : View) (more other : List (ℕ × ℕ)) (place word : ℕ) → FoundAt before more place word
     → FoundAt before (more ++ other) place word
 found_longer before more other place word h = record {
-    finds = h.finds;
-    noted = Contains-append_left more other (place, word) h.noted
-  }
+  finds = h.finds;
+  noted = Contains-append_left more other (place, word) h.noted;
+}
 
 within-append : (first place last : ℕ) (more other : List (ℕ × ℕ)) → WithinPlaces first place more → WithinPlaces last last other
     → first ≤ last → place ≤ last → WithinPlaces first last (more ++ other)
 within-append first place last more other h k low high note n = elim (Contains-append_cases more other note n) [
-    inl e ↦ let f = h note e in (f.0, omega (arith, f.1))
+  | inl e ↦ let f = h note e in (f.0, omega (arith, f.1))
   | inr e ↦ let f = k note e in (omega (arith, f.0), f.1)
-  ]
+]
 
 passes-longer : (before : View) (job attempts rev : ℕ) (more other : List (ℕ × ℕ)) → PassesErrors before job attempts rev more
     → PassesErrors before job attempts rev (more ++ other)
 passes-longer before job attempts rev more other h = record {
-    within = h.within;
-    errors = λ r k. found_longer before more other (place_of job r) 5 (h.errors r k)
-  }
+  within = h.within;
+  errors = λ r k. found_longer before more other (place_of job r) 5 (h.errors r k);
+}
 
 noting-append : (before : View) (more other : List (ℕ × ℕ)) → noting (noting before more) other ≡ noting before (more ++ other)
 noting-append before more other =
@@ -157,13 +157,13 @@ passed-more before now after job attempts rev status h t e low =
     record {
       more = h.more ++ s.0;
       passes = record {
-          within = low;
-          errors = below_more (λ r. FoundAt before (h.more ++ s.0) (place_of job r) 5) rev
-            (λ r k. found_longer before h.more s.0 (place_of job r) 5 (h.passes.errors r k)) here
-        };
+        within = low;
+        errors = below_more (λ r. FoundAt before (h.more ++ s.0) (place_of job r) 5) rev
+            (λ r k. found_longer before h.more s.0 (place_of job r) 5 (h.passes.errors r k)) here;
+      };
       within = λ note k. let f = within-append (place_of job 0) (place_of job rev) (place_of job rev) h.more s.0 h.within s.1.within
-            (omega arith) (omega arith) note k in (f.0, omega (arith, f.1));
-      is = s.1.same ∙ ap A h.is ∙ noting-append before h.more s.0
+          (omega arith) (omega arith) note k in (f.0, omega (arith, f.1));
+      is = s.1.same ∙ ap A h.is ∙ noting-append before h.more s.0;
     }
 
 -- an earlier error lets the next revision open
@@ -171,7 +171,7 @@ pub passed-opens : (before now : View) (job attempts rev : ℕ) → Passed befor
 passed-opens before now job attempts rev h e low =
     let F : View → Type 0 = λ v. Noted v.notes (place_of job (rev - 1)) 5 in
     subst F (sym h.is) (Contains-append_right before.notes h.more (place_of job (rev - 1), 5)
-      (h.passes.errors (rev - 1) (omega (arith, low))).noted)
+    (h.passes.errors (rev - 1) (omega (arith, low))).noted)
 
 -- the end of a stop
 pub passed-final : (before now after : View) (job attempts rev : ℕ) (status : Status) → Passed before job attempts rev now
@@ -179,24 +179,31 @@ pub passed-final : (before now after : View) (job attempts rev : ℕ) (status : 
     → Stops before job attempts (Final rev status) after
 passed-final before now after job attempts rev status h s last =
     let F : View → Type 0 = λ v. FoundAt v s.0 (place_of job rev) (word_of (At status)) in
-    let A : View → View = λ v. noting v s.0 in
-    (h.more ++ s.0, passes-longer before job attempts rev h.more s.0 h.passes, record {
-      final = s.1.final;
-      found = found_before before h.more s.0 (place_of job rev) (word_of (At status)) (subst F h.is s.1.found);
-      within = within-append (place_of job 0) (place_of job rev) (place_of job rev) h.more s.0 h.within s.1.within (omega arith) (omega arith);
-      same = s.1.same ∙ ap A h.is ∙ noting-append before h.more s.0
-    }, last)
+    let A : View → View = λ v. noting v s.0 in (
+      h.more ++ s.0,
+      passes-longer before job attempts rev h.more s.0 h.passes,
+      record {
+        final = s.1.final;
+        found = found_before before h.more s.0 (place_of job rev) (word_of (At status)) (subst F h.is s.1.found);
+        within = within-append (place_of job 0) (place_of job rev) (place_of job rev) h.more s.0 h.within s.1.within (omega arith) (omega arith);
+        same = s.1.same ∙ ap A h.is ∙ noting-append before h.more s.0;
+      },
+      last,
+    )
 
 pub passed-moved : (before now after : View) (job attempts rev : ℕ) → Passed before job attempts rev now
     → StopsPlace now (place_of job rev) None after → Stops before job attempts (Stopped rev) after
 passed-moved before now after job attempts rev h s =
     let F : View → Type 0 = λ v. FoundAt v s.0 (place_of job rev) s.1.word in
     let A : View → View = λ v. moving (noting v s.0) (place_of job rev) s.1.word 4 in
-    let M : View → View = λ v. moving v (place_of job rev) s.1.word 4 in
-    (h.more ++ s.0, passes-longer before job attempts rev h.more s.0 h.passes, record {
-      word = s.1.word;
-      unfinished = s.1.unfinished;
-      found = found_before before h.more s.0 (place_of job rev) s.1.word (subst F h.is s.1.found);
-      within = within-append (place_of job 0) (place_of job rev) (place_of job rev) h.more s.0 h.within s.1.within (omega arith) (omega arith);
-      moved = s.1.moved ∙ ap A h.is ∙ ap M (noting-append before h.more s.0)
-    })
+    let M : View → View = λ v. moving v (place_of job rev) s.1.word 4 in (
+      h.more ++ s.0,
+      passes-longer before job attempts rev h.more s.0 h.passes,
+      record {
+        word = s.1.word;
+        unfinished = s.1.unfinished;
+        found = found_before before h.more s.0 (place_of job rev) s.1.word (subst F h.is s.1.found);
+        within = within-append (place_of job 0) (place_of job rev) (place_of job rev) h.more s.0 h.within s.1.within (omega arith) (omega arith);
+        moved = s.1.moved ∙ ap A h.is ∙ ap M (noting-append before h.more s.0);
+      },
+    )

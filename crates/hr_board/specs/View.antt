@@ -37,13 +37,21 @@ pub record Finds (view : View) (place word : ℕ) : Type 0 where
 abbrev pub noting : View → List (ℕ × ℕ) → View
 noting view more = record view { notes = view.notes ++ more }
 
+-- own final moves, with a move to this word at this place
+abbrev pub finals_with : List (ℕ × ℕ) → ℕ → ℕ → List (ℕ × ℕ)
+finals_with finals place to = if nat_le 4 to then finals ++ (place, to) ∷ [] else finals
+
+-- own opens, with a move from one word to another at this place
+abbrev pub opens_with : List ℕ → ℕ → ℕ → ℕ → List ℕ
+opens_with opens place from to = if nat_le to 2 && nat_eq from 0 then opens ++ place ∷ [] else opens
+
 -- the board after its own move
 abbrev pub moving : View → ℕ → ℕ → ℕ → View
 moving view place from to = record view {
   words = option_map (λ words. slice_set words place to) view.words;
   notes = view.notes ++ (place, to) ∷ [];
-  finals = if nat_le 4 to then view.finals ++ (place, to) ∷ [] else view.finals;
-  opens = if nat_le to 2 && nat_eq from 0 then view.opens ++ place ∷ [] else view.opens;
+  finals = finals_with view.finals place to;
+  opens = opens_with view.opens place from to;
 }
 
 -- a later revision is opened only after a note that the one before it is at Error

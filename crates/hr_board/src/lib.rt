@@ -3,7 +3,10 @@
 #![tactic(auto)]
 
 mod board;
+mod plain;
 mod stopping;
+mod trail;
 
 pub use board::Board;
+pub use plain::PlainBoard;
 pub use stopping::{StopAnswer, stop};

@@ -16,7 +16,8 @@ returns-then-not-leaves_attempt-clause-stops g c =
     passed-final _ _ _ _ _ _ _ c.revisions.invariant.0 c.in-Some.ensures.stops c.if-not-leaves_attempt.ensures.no
 
 pub revisions-preserved : goal.revisions-preserved
-revisions-preserved g c =
-    (passed-more _ _ _ _ _ _ _ c.revisions.invariant.0 c.in-Some.ensures.stops
-       c.if-not-leaves_attempt.ensures.yes.0 c.if-not-leaves_attempt.ensures.yes.1,
-     g.met.B.Board.same_after _ _ _ c.revisions.invariant.1 c.in-Some.ensures.same)
+revisions-preserved g c = (
+  passed-more _ _ _ _ _ _ _ c.revisions.invariant.0 c.in-Some.ensures.stops
+      c.if-not-leaves_attempt.ensures.yes.0 c.if-not-leaves_attempt.ensures.yes.1,
+  g.met.B.Board.same_after _ _ _ c.revisions.invariant.1 c.in-Some.ensures.same,
+)
