@@ -1,11 +1,14 @@
 -- Lemmas on the words of specs/Moves.antt.
-use Rattle.std.proofs.Common.{◌≡◌, ◌≢◌, ℕ, zero, suc, ◌<◌, ◌≤◌, refl, sym, ap, ◌∙◌, arith}
+use Rattle.std.proofs.Common.{◌≡◌, ◌≢◌, ℕ, zero, suc, ◌<◌, ◌≤◌, refl, sym, ap, ◌∙◌, subst, inl, inr, Result, Ok, Err, arith}
+use Rattle.std.specs.Result.{OnOk, IfErr}
+use Rattle.std.proofs.lemmas.Bool.{cases_lt}
 use Rattle.hr_base.specs.declared.status.Status.{Status}
 use Rattle.hr_base.specs.declared.status.Status.TheVariants.{Pending, Scheduled, Running, Stopped, Error, Success}
 use Rattle.hr_base.specs.declared.status.Mark.{Mark}
 use Rattle.hr_base.specs.declared.status.Mark.TheVariants.{Unopened, At}
 use Rattle.hr_base.specs.Status.{word_of, IsFinal}
-use Rattle.hr_board.specs.Moves.{IsMove, Below}
+use Rattle.hr_board.specs.View.{View, Noted, Finds}
+use Rattle.hr_board.specs.Moves.{IsMove, IsReached, at_once, by_move, Below}
 
 -- a final status has a word from 4 on, and another one a lower word
 pub final-word : (status : Status) → IsFinal status → 4 ≤ word_of (At status)
@@ -93,3 +96,66 @@ steps-move (At Running) (At Stopped) h = step 3 4 (omega arith) (omega arith) (o
 steps-move (At Running) (At Error) h = step 3 5 (omega arith) (omega arith) (omega arith) (λ e. omega (arith, e)) (λ e. omega (arith, e)) (λ e. refl)
 steps-move (At Running) (At Success) h = step 3 6 (omega arith) (omega arith) (omega arith) (λ e. omega (arith, e)) (λ e. omega (arith, e)) (λ e. refl)
 steps-move from to h = absurd h
+
+-- what is below a word is below the next one
+pub below_step : (l m n : ℕ) → Below l m → Steps m n → Below l n
+below_step l m n h s =
+    (omega (arith, h.0, s.up), (λ e f. omega (arith, h.0, e, f, s.opening)), (λ e. absurd (omega (arith, h.0, e, s.unfinished))))
+
+-- no word is below itself by less
+pub below_refl : (m : ℕ) → Below m m
+below_refl m = (omega arith, (λ e f. omega (arith, e, f)), (λ e. refl))
+
+pub below-reached : (from to : Mark) → IsReached from to → Below (word_of from) (word_of to)
+below-reached from _ at_once = below_refl (word_of from)
+below-reached from _ (by_move mark to r m) =
+    below_step (word_of from) (word_of mark) (word_of to) (below-reached from mark r) (steps-move mark to m)
+
+running-reached : (from : Mark) → word_of from ≤ 3 → IsReached from (At Running)
+running-reached Unopened h = by_move (At Pending) (At Running) (by_move Unopened (At Pending) at_once tt) tt
+running-reached (At Pending) h = by_move (At Pending) (At Running) at_once tt
+running-reached (At Scheduled) h = by_move (At Scheduled) (At Running) at_once tt
+running-reached (At Running) h = at_once
+running-reached (At Stopped) h = absurd (omega (arith, h))
+running-reached (At Error) h = absurd (omega (arith, h))
+running-reached (At Success) h = absurd (omega (arith, h))
+
+itself-reached : (from to : Mark) → word_of to ≡ word_of from → IsReached from to
+itself-reached from to e = subst (IsReached from) (same-word from to (sym e)) at_once
+
+pub reached-below : (from to : Mark) → Below (word_of from) (word_of to) → IsReached from to
+reached-below Unopened Unopened h = at_once
+reached-below (At s) Unopened h = itself-reached (At s) Unopened (omega (arith, h.0))
+reached-below Unopened (At Pending) h = by_move Unopened (At Pending) at_once tt
+reached-below (At Pending) (At Pending) h = at_once
+reached-below (At s) (At Pending) h = absurd (omega (arith, h.0))
+reached-below Unopened (At Scheduled) h = by_move Unopened (At Scheduled) at_once tt
+reached-below (At Scheduled) (At Scheduled) h = at_once
+reached-below (At Pending) (At Scheduled) h = absurd (h.1 refl refl)
+reached-below (At s) (At Scheduled) h = absurd (omega (arith, h.0))
+reached-below from (At Running) h = running-reached from h.0
+reached-below from (At Stopped) h = elim (cases_lt (word_of from) 4) [
+    inl e ↦ by_move from (At Stopped) at_once (stops from e)
+  | inr e ↦ itself-reached from (At Stopped) (h.2 e)
+  ]
+reached-below from (At Error) h = elim (cases_lt (word_of from) 4) [
+    inl e ↦ by_move (At Running) (At Error) (running-reached from (omega (arith, e))) tt
+  | inr e ↦ itself-reached from (At Error) (h.2 e)
+  ]
+reached-below from (At Success) h = elim (cases_lt (word_of from) 4) [
+    inl e ↦ by_move (At Running) (At Success) (running-reached from (omega (arith, e))) tt
+  | inr e ↦ itself-reached from (At Success) (h.2 e)
+  ]
+
+-- nothing but itself is reached from a final mark
+pub final-stays : (status : Status) (mark : Mark) → IsFinal status → Below (word_of (At status)) (word_of mark) → mark ≡ At status
+final-stays status mark f h = same-word mark (At status) (h.2 (final-word status f))
+
+-- a move where a final mark was noted finds that mark
+pub at-final : (result : Result (Unit {0}) Mark) (view : View) (place : ℕ) (from to : Mark) (status : Status) → IsMove from to
+    → IsFinal status → Noted view.notes place (word_of (At status)) → OnOk result (Finds view place (word_of from))
+    → IfErr result (λ found. Finds view place (word_of found)) → result ≡ Err (At status)
+at-final (Ok u) view place from to status m f n ok err =
+    let stays : word_of from ≡ word_of (At status) = (ok.above (word_of (At status)) n).2 (final-word status f) in
+    absurd (omega (arith, stays, final-word status f, (steps-move from to m).unfinished))
+at-final (Err found) view place from to status m f n ok err = ap Err (final-stays status found f (err.above (word_of (At status)) n))

@@ -11,7 +11,7 @@ use Rattle.hr_board.specs.Moves.{Below}
 use Rattle.hr_board.specs.Past.{Past, no_past}
 use Rattle.hr_board.specs.View.{place_of, Noted, Finds, OpensAfterError, finals_with, opens_with}
 use Rattle.hr_board.specs.Plain.{Plain, IsLawful, IsEnded, IsOpened, view_of}
-use Rattle.hr_board.proofs.MovesLemmas.{Steps}
+use Rattle.hr_board.proofs.MovesLemmas.{Steps, below_step, below_refl}
 
 -- a word after a move: the new one there, and the old one elsewhere
 pub record Moves (words after : List ℕ) (place to : ℕ) : Type 0 where
@@ -20,49 +20,41 @@ pub record Moves (words after : List ℕ) (place to : ℕ) : Type 0 where
 
 moves-set : (words : List ℕ) (place to : ℕ) → place < length words → Moves words (set words place to) place to
 moves-set words place to h = record {
-    here = get_or-set_same words place to 0 h;
-    elsewhere = λ p n. get_or-set_other words place p to 0 n
-  }
+  here = get_or-set_same words place to 0 h;
+  elsewhere = λ p n. get_or-set_other words place p to 0 n;
+}
 
 -- one more item is counted where it passes
 count-push : {X : Type 0} (p : X → Bool) (xs : List X) (x : X) → count_by p (xs ++ x ∷ []) ≡ count_by p xs + cond (p x) 1 0
 count-push p xs x = omega (arith, sum_by-append (λ y. cond (p y) 1 0) xs (x ∷ []))
 
--- nothing is below another word and above it
-pub below_refl : (m : ℕ) → Below m m
-below_refl m = (omega arith, (λ e f. omega (arith, e, f)), (λ e. refl))
-
-pub below_step : (l m n : ℕ) → Below l m → Steps m n → Below l n
-below_step l m n h s =
-    (omega (arith, h.0, s.up), (λ e f. omega (arith, h.0, e, f, s.opening)), (λ e. absurd (omega (arith, h.0, e, s.unfinished))))
-
 -- a note of the word that stands there keeps the law
 pub lawful-saw : (words : List ℕ) (past : Past) (place word : ℕ) → IsLawful words past → word ≡ get_or words place 0
     → IsLawful words (record past { notes = past.notes ++ (place, word) ∷ [] })
 lawful-saw words past place word h e = record {
-    jobs_fit = h.jobs_fit;
-    valid_word = h.valid_word;
-    opened_after_error = h.opened_after_error;
-    notes_below = λ p w n. elim (Contains-push_cases past.notes (place, word) (p, w) n) [
-        inl k ↦ h.notes_below p w k
-      | inr k ↦
-            let P : ℕ × ℕ → ℕ = λ v. v.0 in let W : ℕ × ℕ → ℕ = λ v. v.1 in
-            let same : w ≡ get_or words p 0 = sym (ap W k) ∙ e ∙ ap (λ (q : ℕ). get_or words q 0) (ap P k) in
-            let B : ℕ → Type 0 = λ v. Below w v in
-            subst B same (below_refl w)
-      ];
-    final_moves = h.final_moves;
-    finals_once = h.finals_once;
-    opens_once = h.opens_once
-  }
+  jobs_fit = h.jobs_fit;
+  valid_word = h.valid_word;
+  opened_after_error = h.opened_after_error;
+  notes_below = λ p w n. elim (Contains-push_cases past.notes (place, word) (p, w) n) [
+    | inl k ↦ h.notes_below p w k
+    | inr k ↦
+        let P : ℕ × ℕ → ℕ = λ v. v.0 in let W : ℕ × ℕ → ℕ = λ v. v.1 in
+        let same : w ≡ get_or words p 0 = sym (ap W k) ∙ e ∙ ap (λ (q : ℕ). get_or words q 0) (ap P k) in
+        let B : ℕ → Type 0 = λ v. Below w v in
+        subst B same (below_refl w)
+  ];
+  final_moves = h.final_moves;
+  finals_once = h.finals_once;
+  opens_once = h.opens_once;
+}
 
 -- the word at any place after a move
 moved-cases : (words after : List ℕ) (place to p : ℕ) → Moves words after place to
     → ((p ≡ place) × (get_or after p 0 ≡ to)) ⊎ ((p ≢ place) × (get_or after p 0 ≡ get_or words p 0))
 moved-cases words after place to p h = elim (eqb_tells p place) [
-    inl e ↦ inl (e.1, ap (λ (q : ℕ). get_or after q 0) e.1 ∙ h.here)
+  | inl e ↦ inl (e.1, ap (λ (q : ℕ). get_or after q 0) e.1 ∙ h.here)
   | inr e ↦ inr (e.1, h.elsewhere p e.1)
-  ]
+]
 
 -- how often a place stands among items after one more
 pub count-here : {X : Type 0} (f : X → ℕ) (xs : List X) (x : X) (p : ℕ) → f x ≡ p
@@ -74,10 +66,10 @@ count-here f xs x p e =
 pub count-elsewhere : {X : Type 0} (f : X → ℕ) (xs : List X) (x : X) (p : ℕ) → f x ≢ p
     → count_by (λ y. eqb (f y) p) (xs ++ x ∷ []) ≡ count_by (λ y. eqb (f y) p) xs
 count-elsewhere f xs x p n = elim (eqb_tells (f x) p) [
-    inl e ↦ absurd (n e.1)
+  | inl e ↦ absurd (n e.1)
   | inr e ↦ count-push (λ y. eqb (f y) p) xs x ∙ ap (λ (b : Bool). count_by (λ y. eqb (f y) p) xs + cond b 1 0) e.0
       ∙ omega arith
-  ]
+]
 
 -- a revision's place is one of the words
 pub place-in : (len job rev : ℕ) → 1 ≤ job → job ≤ len / 4 → rev ≤ 3 → place_of job rev < len
@@ -111,12 +103,17 @@ moved-after_error : (words after : List ℕ) (job rev m n : ℕ) → Moves words
     → (other r : ℕ) → r < 3 → get_or after (place_of other (r + 1)) 0 ≢ 0 → get_or after (place_of other r) 0 ≡ 5
 moved-after_error words after job rev m n h s in' is opens before other r low set =
     elim (moved-cases words after (place_of job rev) n (place_of other (r + 1)) h) [
-      inl e ↦ later e.0
-    | inr e ↦ elim (moved-cases words after (place_of job rev) n (place_of other r) h) [
-          inl f ↦ absurd (omega (arith, s.unfinished,
-              before other r low (λ z. set (e.1 ∙ z)), ap (λ (p : ℕ). get_or words p 0) f.0, is))
+      | inl e ↦ later e.0
+      | inr e ↦ elim (moved-cases words after (place_of job rev) n (place_of other r) h) [
+        | inl f ↦ absurd (omega (
+          arith,
+          s.unfinished,
+          before other r low (λ z. set (e.1 ∙ z)),
+          ap (λ (p : ℕ). get_or words p 0) f.0,
+          is,
+        ))
         | inr f ↦ f.1 ∙ before other r low (λ z. set (e.1 ∙ z))
-        ]
+      ]
     ]
   where
     later : place_of other (r + 1) ≡ place_of job rev → get_or after (place_of other r) 0 ≡ 5
@@ -124,10 +121,10 @@ moved-after_error words after job rev m n h s in' is opens before other r low se
         let one_less : place_of other r ≡ place_of job (rev - 1) = omega (arith, e, same_rev job rev other (r + 1) in' (omega (arith, low)) (sym e)) in
         let apart : place_of other r ≢ place_of job rev = λ f. omega (arith, e, f) in
         let there : get_or words (place_of other r) 0 ≡ 5 = elim (eqb_tells m 0) [
-              inl z ↦ ap (λ (p : ℕ). get_or words p 0) one_less
-                ∙ opens z.1 (omega (arith, same_rev job rev other (r + 1) in' (omega (arith, low)) (sym e)))
-            | inr z ↦ before other r low (λ w. z.1 (sym is ∙ ap (λ (p : ℕ). get_or words p 0) (sym e) ∙ w))
-            ] in
+          | inl z ↦ ap (λ (p : ℕ). get_or words p 0) one_less
+              ∙ opens z.1 (omega (arith, same_rev job rev other (r + 1) in' (omega (arith, low)) (sym e)))
+          | inr z ↦ before other r low (λ w. z.1 (sym is ∙ ap (λ (p : ℕ). get_or words p 0) (sym e) ∙ w))
+        ] in
         h.elsewhere (place_of other r) apart ∙ there
 
 -- after a move: each final word stands once among the own final moves
@@ -136,21 +133,21 @@ moved-finals_once : (words after : List ℕ) (finals : List (ℕ × ℕ)) (place
     → ((p : ℕ) → IsEnded (get_or words p 0) (count_by (λ note. eqb note.0 p) finals))
     → (p : ℕ) → IsEnded (get_or after p 0) (count_by (λ note. eqb note.0 p) (finals_with finals place n))
 moved-finals_once words after finals place m n h s is once p = elim (leb_tells 4 n) [
-    inl e ↦ rw e.0 (elim (moved-cases words after place n p h) [
-        inl f ↦ let c = count-here (λ (v : ℕ × ℕ). v.0) finals (place, n) p (sym f.0) in
-          let o = once p in
-          let w : get_or words p 0 ≡ m = ap (λ (q : ℕ). get_or words q 0) f.0 ∙ is in
-          rw (f.1, c) ((λ k. absurd (omega (arith, k, e.1))), (λ k. omega (arith, o.0, w, s.unfinished)))
-      | inr f ↦ let c = count-elsewhere (λ (v : ℕ × ℕ). v.0) finals (place, n) p (λ k. f.0 (sym k)) in
-          rw (f.1, c) (once p)
-      ])
+  | inl e ↦ rw e.0 (elim (moved-cases words after place n p h) [
+    | inl f ↦ let c = count-here (λ (v : ℕ × ℕ). v.0) finals (place, n) p (sym f.0) in
+        let o = once p in
+        let w : get_or words p 0 ≡ m = ap (λ (q : ℕ). get_or words q 0) f.0 ∙ is in
+        rw (f.1, c) ((λ k. absurd (omega (arith, k, e.1))), (λ k. omega (arith, o.0, w, s.unfinished)))
+    | inr f ↦ let c = count-elsewhere (λ (v : ℕ × ℕ). v.0) finals (place, n) p (λ k. f.0 (sym k)) in
+        rw (f.1, c) (once p)
+  ])
   | inr e ↦ rw e.0 (elim (moved-cases words after place n p h) [
-        inl f ↦ let o = once p in
-          let w : get_or words p 0 ≡ m = ap (λ (q : ℕ). get_or words q 0) f.0 ∙ is in
-          rw f.1 ((λ k. omega (arith, o.0, w, s.unfinished)), (λ k. absurd (omega (arith, k, e.1))))
-      | inr f ↦ rw f.1 (once p)
-      ])
-  ]
+    | inl f ↦ let o = once p in
+        let w : get_or words p 0 ≡ m = ap (λ (q : ℕ). get_or words q 0) f.0 ∙ is in
+        rw f.1 ((λ k. omega (arith, o.0, w, s.unfinished)), (λ k. absurd (omega (arith, k, e.1))))
+    | inr f ↦ rw f.1 (once p)
+  ])
+]
 
 -- after a move: each own final move is to a final word, and is the word
 moved-final_moves : (words after : List ℕ) (finals : List (ℕ × ℕ)) (place m n : ℕ) → Moves words after place n → Steps m n
@@ -158,33 +155,33 @@ moved-final_moves : (words after : List ℕ) (finals : List (ℕ × ℕ)) (place
     → ((p w : ℕ) → Contains finals (p, w) → (4 ≤ w) × (get_or words p 0 ≡ w))
     → (p w : ℕ) → Contains (finals_with finals place n) (p, w) → (4 ≤ w) × (get_or after p 0 ≡ w)
 moved-final_moves words after finals place m n h s is moves p w = elim (leb_tells 4 n) [
-    inl e ↦ rw e.0 (λ k. elim (Contains-push_cases finals (place, n) (p, w) k) [
-        inl f ↦ stays f
-      | inr f ↦
-            let P : ℕ × ℕ → ℕ = λ v. v.0 in let W : ℕ × ℕ → ℕ = λ v. v.1 in
-            (omega (arith, e.1, ap W f), ap (λ (q : ℕ). get_or after q 0) (sym (ap P f)) ∙ h.here ∙ ap W f)
-      ])
+  | inl e ↦ rw e.0 (λ k. elim (Contains-push_cases finals (place, n) (p, w) k) [
+    | inl f ↦ stays f
+    | inr f ↦
+        let P : ℕ × ℕ → ℕ = λ v. v.0 in let W : ℕ × ℕ → ℕ = λ v. v.1 in
+        (omega (arith, e.1, ap W f), ap (λ (q : ℕ). get_or after q 0) (sym (ap P f)) ∙ h.here ∙ ap W f)
+  ])
   | inr e ↦ rw e.0 (λ k. stays k)
-  ]
+]
   where
     stays : Contains finals (p, w) → (4 ≤ w) × (get_or after p 0 ≡ w)
     stays f = elim (moved-cases words after place n p h) [
-        inl k ↦ absurd (omega (arith, moves p w f, is, s.unfinished, ap (λ (q : ℕ). get_or words q 0) k.0))
+      | inl k ↦ absurd (omega (arith, moves p w f, is, s.unfinished, ap (λ (q : ℕ). get_or words q 0) k.0))
       | inr k ↦ ((moves p w f).0, k.1 ∙ (moves p w f).1)
-      ]
+    ]
 
 -- a move that opens, by its words
 opening-yes : (m n : ℕ) → Steps m n → n ≤ 2 → (leb n 2 && eqb m 0) ≡ true
 opening-yes m n s e = elim (leb_tells n 2) [
-    inl k ↦ rw k.0 (eq-eqb m 0 (s.opening e))
+  | inl k ↦ rw k.0 (eq-eqb m 0 (s.opening e))
   | inr k ↦ absurd (omega (arith, k.1, e))
-  ]
+]
 
 opening-no : (m n : ℕ) → 3 ≤ n → (leb n 2 && eqb m 0) ≡ false
 opening-no m n e = elim (leb_tells n 2) [
-    inl k ↦ absurd (omega (arith, k.1, e))
+  | inl k ↦ absurd (omega (arith, k.1, e))
   | inr k ↦ rw k.0
-  ]
+]
 
 -- after a move: each open word stands once among the opens
 moved-opens_once : (words after : List ℕ) (opens : List ℕ) (place m n : ℕ) → Moves words after place n → Steps m n
@@ -192,74 +189,77 @@ moved-opens_once : (words after : List ℕ) (opens : List ℕ) (place m n : ℕ)
     → ((p : ℕ) → IsOpened (get_or words p 0) (count_by (λ opened. eqb opened p) opens))
     → (p : ℕ) → IsOpened (get_or after p 0) (count_by (λ opened. eqb opened p) (opens_with opens place m n))
 moved-opens_once words after opens place m n h s is once p = elim (cases_lt 2 n) [
-    inl e ↦ rw (opening-no m n (omega (arith, e))) (elim (moved-cases words after place n p h) [
-        inl f ↦ let o = once p in
-          let w : get_or words p 0 ≡ m = ap (λ (q : ℕ). get_or words q 0) f.0 ∙ is in
-          rw f.1 (o.0, (λ k. absurd (omega (arith, k, s.up))),
-            (λ k l. o.2 (λ z. opened (sym w ∙ z) k l e) (λ z. omega (arith, w, z, s.unfinished))))
-      | inr f ↦ rw f.1 (once p)
-      ])
+  | inl e ↦ rw (opening-no m n (omega (arith, e))) (elim (moved-cases words after place n p h) [
+    | inl f ↦ let o = once p in
+        let w : get_or words p 0 ≡ m = ap (λ (q : ℕ). get_or words q 0) f.0 ∙ is in
+        rw f.1 (
+          o.0,
+          (λ k. absurd (omega (arith, k, s.up))),
+          (λ k l. o.2 (λ z. opened (sym w ∙ z) k l e) (λ z. omega (arith, w, z, s.unfinished))),
+        )
+    | inr f ↦ rw f.1 (once p)
+  ])
   | inr e ↦ rw (opening-yes m n s e) (elim (moved-cases words after place n p h) [
-        inl f ↦ let c = count-here (λ (v : ℕ). v) opens place p (sym f.0) in
-          let o = once p in
-          let w : get_or words p 0 ≡ m = ap (λ (q : ℕ). get_or words q 0) f.0 ∙ is in
-          let none = o.1 (w ∙ s.opening e) in
-          rw (f.1, c) (omega (arith, none), (λ k. absurd (omega (arith, k, s.up))), (λ k l. omega (arith, none)))
-      | inr f ↦ let c = count-elsewhere (λ (v : ℕ). v) opens place p (λ k. f.0 (sym k)) in
-          rw (f.1, c) (once p)
-      ])
-  ]
+    | inl f ↦ let c = count-here (λ (v : ℕ). v) opens place p (sym f.0) in
+        let o = once p in
+        let w : get_or words p 0 ≡ m = ap (λ (q : ℕ). get_or words q 0) f.0 ∙ is in
+        let none = o.1 (w ∙ s.opening e) in
+        rw (f.1, c) (omega (arith, none), (λ k. absurd (omega (arith, k, s.up))), (λ k l. omega (arith, none)))
+    | inr f ↦ let c = count-elsewhere (λ (v : ℕ). v) opens place p (λ k. f.0 (sym k)) in
+        rw (f.1, c) (once p)
+  ])
+]
   where
     opened : m ≡ 0 → n ≢ 0 → n ≢ 4 → 2 < n → ⊥
     opened z a b c = elim (cases_lt 3 n) [
-        inl k ↦ omega (arith, z, s.ending (omega (arith, k, b)))
+      | inl k ↦ omega (arith, z, s.ending (omega (arith, k, b)))
       | inr k ↦ omega (arith, z, s.starting (omega (arith, k, c)))
-      ]
+    ]
 
 -- a move keeps the law
 pub lawful-moved : (words after : List ℕ) (past : Past) (job rev m n : ℕ) → IsLawful words past
     → Moves words after (place_of job rev) n → length after ≡ length words → Steps m n → rev ≤ 3
     → get_or words (place_of job rev) 0 ≡ m → (m ≡ 0 → 1 ≤ rev → Noted past.notes (place_of job (rev - 1)) 5)
     → IsLawful after (record {
-        notes = past.notes ++ (place_of job rev, n) ∷ [];
-        finals = finals_with past.finals (place_of job rev) n;
-        opens = opens_with past.opens (place_of job rev) m n
-      })
+      notes = past.notes ++ (place_of job rev, n) ∷ [];
+      finals = finals_with past.finals (place_of job rev) n;
+      opens = opens_with past.opens (place_of job rev) m n;
+    })
 lawful-moved words after past job rev m n h mv len s in' is opens = record {
-    jobs_fit = rw len h.jobs_fit;
-    valid_word = λ p. elim (moved-cases words after (place_of job rev) n p mv) [
-        inl e ↦ omega (arith, e.1, s.valid)
-      | inr e ↦ omega (arith, e.1, h.valid_word p)
-      ];
-    opened_after_error = moved-after_error words after job rev m n mv s in' is
+  jobs_fit = rw len h.jobs_fit;
+  valid_word = λ p. elim (moved-cases words after (place_of job rev) n p mv) [
+    | inl e ↦ omega (arith, e.1, s.valid)
+    | inr e ↦ omega (arith, e.1, h.valid_word p)
+  ];
+  opened_after_error = moved-after_error words after job rev m n mv s in' is
       (λ z low. (h.notes_below (place_of job (rev - 1)) 5 (opens z low)).2 (omega arith)) h.opened_after_error;
-    notes_below = λ p w k. elim (Contains-push_cases past.notes (place_of job rev, n) (p, w) k) [
-        inl f ↦ elim (moved-cases words after (place_of job rev) n p mv) [
-            inl e ↦
-                let at : get_or words p 0 ≡ m = ap (λ (q : ℕ). get_or words q 0) e.0 ∙ is in
-                let B : ℕ → Type 0 = λ v. Below w v in
-                subst B (sym e.1) (below_step w m n (subst B at (h.notes_below p w f)) s)
-          | inr e ↦ let B : ℕ → Type 0 = λ v. Below w v in subst B (sym e.1) (h.notes_below p w f)
-          ]
-      | inr f ↦
-            let P : ℕ × ℕ → ℕ = λ v. v.0 in let W : ℕ × ℕ → ℕ = λ v. v.1 in
-            let B : ℕ → Type 0 = λ v. Below w v in
-            subst B (sym (ap W f) ∙ sym mv.here ∙ ap (λ (q : ℕ). get_or after q 0) (ap P f)) (below_refl w)
-      ];
-    final_moves = moved-final_moves words after past.finals (place_of job rev) m n mv s is h.final_moves;
-    finals_once = moved-finals_once words after past.finals (place_of job rev) m n mv s is h.finals_once;
-    opens_once = moved-opens_once words after past.opens (place_of job rev) m n mv s is h.opens_once
-  }
+  notes_below = λ p w k. elim (Contains-push_cases past.notes (place_of job rev, n) (p, w) k) [
+    | inl f ↦ elim (moved-cases words after (place_of job rev) n p mv) [
+      | inl e ↦
+          let at : get_or words p 0 ≡ m = ap (λ (q : ℕ). get_or words q 0) e.0 ∙ is in
+          let B : ℕ → Type 0 = λ v. Below w v in
+          subst B (sym e.1) (below_step w m n (subst B at (h.notes_below p w f)) s)
+      | inr e ↦ let B : ℕ → Type 0 = λ v. Below w v in subst B (sym e.1) (h.notes_below p w f)
+    ]
+    | inr f ↦
+        let P : ℕ × ℕ → ℕ = λ v. v.0 in let W : ℕ × ℕ → ℕ = λ v. v.1 in
+        let B : ℕ → Type 0 = λ v. Below w v in
+        subst B (sym (ap W f) ∙ sym mv.here ∙ ap (λ (q : ℕ). get_or after q 0) (ap P f)) (below_refl w)
+  ];
+  final_moves = moved-final_moves words after past.finals (place_of job rev) m n mv s is h.final_moves;
+  finals_once = moved-finals_once words after past.finals (place_of job rev) m n mv s is h.finals_once;
+  opens_once = moved-opens_once words after past.opens (place_of job rev) m n mv s is h.opens_once;
+}
 
 -- what `advance` leaves where it moves the word
 pub lawful-advance : (words : List ℕ) (past after : Past) (board : Plain) (job rev at found m n : ℕ) → IsLawful words past
     → record { words = words; past = past } ≡ board → (1 ≤ job) × (job ≤ length board.words / 4) → rev ≤ 3 → at ≡ place_of job rev
     → found ≡ get_or words at found → found ≡ m → Steps m n → OpensAfterError (view_of board) job rev m
     → after ≡ record {
-        notes = past.notes ++ (at, n) ∷ [];
-        finals = finals_with past.finals at n;
-        opens = opens_with past.opens at m n
-      }
+      notes = past.notes ++ (at, n) ∷ [];
+      finals = finals_with past.finals at n;
+      opens = opens_with past.opens at m n;
+    }
     → IsLawful (set words at n) after
 lawful-advance words past after board job rev at found m n h e k in' l r is s opens w =
     let W : Plain → ℕ = λ b. length b.words / 4 in
@@ -267,7 +267,7 @@ lawful-advance words past after board job rev at found m n h e k in' l r is s op
     let range : place_of job rev < length words = place-in (length words) job rev k.0 (omega (arith, k.1, ap W e)) in' in
     let A : ℕ → Past = λ p. record { notes = past.notes ++ (p, n) ∷ []; finals = finals_with past.finals p n; opens = opens_with past.opens p m n } in
     let there : get_or words (place_of job rev) 0 ≡ m
-          = ap (λ (p : ℕ). get_or words p 0) (sym l) ∙ sym (word-at words past board job rev at found e k in' l r) ∙ is in
+    = ap (λ (p : ℕ). get_or words p 0) (sym l) ∙ sym (word-at words past board job rev at found e k in' l r) ∙ is in
     rw (w ∙ ap A l, ap (λ (p : ℕ). set words p n) l)
-      (lawful-moved words (set words (place_of job rev) n) past job rev m n h (moves-set words (place_of job rev) n range)
-        (length-set _ _ _) s in' there (subst O (sym e) opens))
+    (lawful-moved words (set words (place_of job rev) n) past job rev m n h (moves-set words (place_of job rev) n range)
+    (length-set _ _ _) s in' there (subst O (sym e) opens))

@@ -46,7 +46,7 @@ pub record IsLawful (words : List ℕ) (past : Past) : Type 0 where
   pub notes_below : (place word : ℕ) → Noted past.notes place word → Below word (slice_index words place)
   -- each own final move is to a final word, and is the word
   pub final_moves : (place word : ℕ) → Noted past.finals place word
-    → (4 ≤ word) × (slice_index words place ≡ word)
+      → (4 ≤ word) × (slice_index words place ≡ word)
   -- each final word stands once among the own final moves, and no other place does
   pub finals_once : (place : ℕ)
       → IsEnded (slice_index words place) (count_by (λ note. note.0 == place) past.finals)

@@ -3,10 +3,12 @@
 #![tactic(auto)]
 
 mod board;
+mod moves;
 mod plain;
 mod stopping;
 mod trail;
 
 pub use board::Board;
+pub use moves::{below_is_reached, final_stays, look_at_final, move_at_final};
 pub use plain::PlainBoard;
 pub use stopping::{StopAnswer, stop};
