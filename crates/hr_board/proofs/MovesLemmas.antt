@@ -135,17 +135,17 @@ reached-below (At Pending) (At Scheduled) h = absurd (h.1 refl refl)
 reached-below (At s) (At Scheduled) h = absurd (omega (arith, h.0))
 reached-below from (At Running) h = running-reached from h.0
 reached-below from (At Stopped) h = elim (cases_lt (word_of from) 4) [
-    inl e ↦ by_move from (At Stopped) at_once (stops from e)
+  | inl e ↦ by_move from (At Stopped) at_once (stops from e)
   | inr e ↦ itself-reached from (At Stopped) (h.2 e)
-  ]
+]
 reached-below from (At Error) h = elim (cases_lt (word_of from) 4) [
-    inl e ↦ by_move (At Running) (At Error) (running-reached from (omega (arith, e))) tt
+  | inl e ↦ by_move (At Running) (At Error) (running-reached from (omega (arith, e))) tt
   | inr e ↦ itself-reached from (At Error) (h.2 e)
-  ]
+]
 reached-below from (At Success) h = elim (cases_lt (word_of from) 4) [
-    inl e ↦ by_move (At Running) (At Success) (running-reached from (omega (arith, e))) tt
+  | inl e ↦ by_move (At Running) (At Success) (running-reached from (omega (arith, e))) tt
   | inr e ↦ itself-reached from (At Success) (h.2 e)
-  ]
+]
 
 -- nothing but itself is reached from a final mark
 pub final-stays : (status : Status) (mark : Mark) → IsFinal status → Below (word_of (At status)) (word_of mark) → mark ≡ At status

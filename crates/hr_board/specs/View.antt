@@ -54,6 +54,14 @@ moving view place from to = record view {
   opens = opens_with view.opens place from to;
 }
 
+-- the board after any call: it has the same jobs and the same leave, and its notes are those before
+-- and more
+pub record Keeps (before after : View) : Type 0 where
+  pub jobs : after.jobs ≡ before.jobs
+  pub allows : after.allows ≡ before.allows
+  pub more : List (ℕ × ℕ)
+  pub notes : after.notes ≡ before.notes ++ more
+
 -- a later revision is opened only after a note that the one before it is at Error
 abbrev pub OpensAfterError : View → ℕ → ℕ → ℕ → Type 0
 OpensAfterError view job rev from = from ≡ 0 → 1 ≤ rev → Noted view.notes (place_of job (rev - 1)) 5

@@ -2,7 +2,7 @@
 //! written against. (Our own.)
 ghost use Rattle.std.specs.Prelude.{◌≡◌, ◌≢◌, ℕ, ◌≤◌, ◌∷◌, [], IsTrue, IfErr, OnOk};
 ghost use Rattle.hr_board.specs.Moves.{IsMove};
-ghost use Rattle.hr_board.specs.View.{View, place_of, Finds, noting, moving, OpensAfterError};
+ghost use Rattle.hr_board.specs.View.{View, place_of, Finds, noting, moving, Keeps, OpensAfterError};
 ghost use Rattle.hr_base.specs.Status.{word_of};
 
 use hr_base::{JobNo, Mark};
@@ -36,6 +36,7 @@ pub trait Board {
         ensures found { Finds (seen self.old) (place_of job.0 rev) (word_of result) }
         ensures noted { seen self.new
             ≡ noting (seen self.old) ((place_of job.0 rev, word_of result) ∷ []) }
+        ensures kept { Keeps (seen self.old) (seen self.new) }
         ensures same { same self.old self.new };
 
     /// Moves a word from one mark to another in one step, and notes where it is then. Where the
@@ -54,6 +55,7 @@ pub trait Board {
             Finds (seen self.old) (place_of job.0 rev) (word_of found)) }
         ensures noted { IfErr result (λ found. seen self.new
             ≡ noting (seen self.old) ((place_of job.0 rev, word_of found) ∷ [])) }
+        ensures kept { Keeps (seen self.old) (seen self.new) }
         ensures same { same self.old self.new };
 
     /// A board is the same as itself.

@@ -6,6 +6,8 @@ mod board;
 mod moves;
 mod plain;
 mod stopping;
+#[cfg(test)]
+mod tests;
 mod trail;
 
 pub use board::Board;

@@ -64,9 +64,9 @@ impl Board for PlainBoard {
 
     fn look(&mut self, job: JobNo, rev: u8) -> Mark {
         let at = place(job, rev);
-        let word = self.words[at];
-        self.trail = Trail::with(&self.trail, &Note::Saw(at, word));
-        mark_of(word)
+        let found = self.words[at];
+        self.trail = Trail::with(&self.trail, &Note::Saw(at, found));
+        mark_of(found)
     }
 
     fn advance(&mut self, job: JobNo, rev: u8, from: Mark, to: Mark) -> Result<(), Mark> {

@@ -2,7 +2,7 @@
 ghost use Rattle.std.specs.Prelude.{◌≡◌, ◌+◌, ◌≤◌, ◌<◌, IsTrue, IfNone, IfSome};
 ghost use Rattle.std.specs.Bool.{OnTrue, OnFalse};
 ghost use Rattle.hr_base.specs.Status.{word_of, IsFinal};
-ghost use Rattle.hr_board.specs.View.{place_of, OpensAfterError};
+ghost use Rattle.hr_board.specs.View.{place_of, Keeps, OpensAfterError};
 ghost use Rattle.hr_board.specs.Stopping.{Stops, StopsPlace};
 
 use crate::Board;
@@ -24,6 +24,7 @@ pub fn stop<B: Board>(board: &mut B, job: JobNo, attempts: u8) -> StopAnswer
     requires attempts { (1 ≤ attempts) × (attempts ≤ 4) }
     requires allowed { IsTrue ((B.seen board.old).allows 4) }
     ensures stops { Stops (B.seen board.old) job.0 attempts result (B.seen board.new) }
+    ensures kept { Keeps (B.seen board.old) (B.seen board.new) }
     ensures same { B.same board.old board.new }
 {
     let mut rev = 0;
