@@ -1,5 +1,5 @@
 -- Lemmas on the words of specs/Plain.antt.
-use Rattle.std.proofs.Common.{◌≡◌, ◌≢◌, ℕ, ◌+◌, ◌-◌, ◌*◌, ◌/◌, ◌<◌, ◌≤◌, ◌^◌, Bool, true, false, cond, eqb, leb, List, [], ◌∷◌, ◌++◌, length, get_or, set, replicate, refl, sym, ap, ◌∙◌, subst, inl, inr, ◌⊎◌, ◌&&◌, arith, length-set, eq-eqb}
+use Rattle.std.proofs.Common.{◌≡◌, ◌≢◌, ℕ, ◌+◌, ◌-◌, ◌/◌, ◌<◌, ◌≤◌, Bool, true, false, cond, eqb, leb, List, [], ◌∷◌, ◌++◌, length, get_or, set, sym, ap, ◌∙◌, subst, inl, inr, ◌⊎◌, ◌&&◌, arith, length-set, eq-eqb}
 use Rattle.std.proofs.lemmas.Bool.{cases_lt}
 use Rattle.std.specs.List.{Contains, count_by}
 use Rattle.std.proofs.lemmas.List.{get_or-set_same, get_or-set_other}
@@ -8,7 +8,7 @@ use Rattle.std.proofs.lemmas.List.Sums.{sum_by-append}
 use Rattle.std.proofs.lemmas.List.Elements.{Contains-push_cases}
 use Rattle.std.proofs.lemmas.Bool.Decides.{eqb_tells, leb_tells}
 use Rattle.hr_board.specs.Moves.{Below}
-use Rattle.hr_board.specs.Past.{Past, no_past}
+use Rattle.hr_board.specs.Past.{Past}
 use Rattle.hr_board.specs.View.{place_of, Noted, Finds, OpensAfterError, finals_with, opens_with}
 use Rattle.hr_board.specs.Plain.{Plain, IsLawful, IsEnded, IsOpened, view_of}
 use Rattle.hr_board.proofs.MovesLemmas.{Steps, below_step, below_refl}

@@ -1,16 +1,14 @@
 -- Lemmas on the words of specs/Stopping.antt.
-use Rattle.std.proofs.Common.{◌≡◌, ◌≢◌, ℕ, ◌+◌, ◌<◌, ◌≤◌, List, [], ◌∷◌, ◌++◌, Option, Bool, refl, sym, ap, ◌∙◌, subst, inl, inr, append_assoc, below_more, Some, None, arith, ◌*◌, ◌-◌}
+use Rattle.std.proofs.Common.{◌≡◌, ◌≢◌, ℕ, ◌+◌, ◌<◌, ◌≤◌, List, [], ◌∷◌, ◌++◌, sym, ap, ◌∙◌, subst, inl, inr, append_assoc, below_more, Some, None, arith, ◌-◌}
 use Rattle.std.proofs.lemmas.List.{append-nil}
-use Rattle.std.specs.List.{Contains}
 use Rattle.std.proofs.lemmas.List.Elements.{Contains-push, Contains-push_cases, Contains-append_cases, Contains-append_left, Contains-append_right}
 use Rattle.hr_base.specs.declared.status.Status.{Status}
 use Rattle.hr_base.specs.declared.status.Mark.TheVariants.{At}
 use Rattle.hr_base.specs.Status.{word_of, IsFinal}
 use Rattle.hr_board.specs.Moves.{Below}
 use Rattle.hr_base.specs.declared.status.Status.TheVariants.{Error}
-use Rattle.hr_board.specs.declared.stopping.StopAnswer.{StopAnswer}
 use Rattle.hr_board.specs.declared.stopping.StopAnswer.TheVariants.{Stopped, Final}
-use Rattle.hr_board.specs.View.{View, place_of, Noted, Finds, noting, moving, Keeps, OpensAfterError}
+use Rattle.hr_board.specs.View.{View, place_of, Noted, Finds, noting, moving, OpensAfterError}
 use Rattle.hr_board.specs.Stopping.{FoundAt, WithinPlaces, StopsAt, FindsFinalAt, StopsPlace, PassesErrors, Stops}
 
 -- what a stop knows at one place: the word that it found last, and what it noted there

@@ -1,3 +1,4 @@
+pub mod Current
 pub mod Moves
 pub mod Past
 pub mod Plain

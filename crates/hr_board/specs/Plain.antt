@@ -43,7 +43,8 @@ pub record IsLawful (words : List ℕ) (past : Past) : Type 0 where
   pub opened_after_error : (job rev : ℕ) → rev < 3
       → slice_index words (place_of job (rev + 1)) ≢ 0 → slice_index words (place_of job rev) ≡ 5
   -- the word is reached from each note of it, so that a final note is the word
-  pub notes_below : (place word : ℕ) → Noted past.notes place word → Below word (slice_index words place)
+  pub notes_below : (place word : ℕ) → Noted past.notes place word
+      → Below word (slice_index words place)
   -- each own final move is to a final word, and is the word
   pub final_moves : (place word : ℕ) → Noted past.finals place word
       → (4 ≤ word) × (slice_index words place ≡ word)

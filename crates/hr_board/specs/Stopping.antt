@@ -16,18 +16,21 @@ pub record FoundAt (before : View) (more : List (ℕ × ℕ)) (place word : ℕ)
 
 -- each place that the call noted is from the first to the last of these
 abbrev pub WithinPlaces : ℕ → ℕ → List (ℕ × ℕ) → Type 0
-WithinPlaces first last more = (note : ℕ × ℕ) → Contains more note → (first ≤ note.0) × (note.0 ≤ last)
+WithinPlaces first last more =
+    (note : ℕ × ℕ) → Contains more note → (first ≤ note.0) × (note.0 ≤ last)
 
 -- it moved this word, which was not final, to Stopped itself
-pub record StopsAt (before : View) (first place : ℕ) (more : List (ℕ × ℕ)) (after : View) : Type 0 where
+pub record StopsAt (before : View) (first place : ℕ) (more : List (ℕ × ℕ)) (after : View)
+    : Type 0 where
   pub word : ℕ
   pub unfinished : word < 4
   pub found : FoundAt before more place word
   pub within : WithinPlaces first place more
-  pub moved : after ≡ moving (noting before more) place word 4
+  pub moved : after ≡ moving (noting before more) place word (word_of (At Status.Stopped))
 
 -- it found this word final, and moved nothing
-pub record FindsFinalAt (before : View) (first place : ℕ) (more : List (ℕ × ℕ)) (status : Status) (after : View) : Type 0 where
+pub record FindsFinalAt (before : View) (first place : ℕ) (more : List (ℕ × ℕ))
+    (status : Status) (after : View) : Type 0 where
   pub final : IsFinal status
   pub found : FoundAt before more place (word_of (At status))
   pub within : WithinPlaces first place more
@@ -36,12 +39,13 @@ pub record FindsFinalAt (before : View) (first place : ℕ) (more : List (ℕ ×
 -- what a stop does at one place: it moves the word, or finds it final
 abbrev pub StopsPlace : View → ℕ → Option Status → View → Type 0
 StopsPlace before place None after = (more : List (ℕ × ℕ)) × StopsAt before place place more after
-StopsPlace before place (Some status) after = (more : List (ℕ × ℕ)) × FindsFinalAt before place place more status after
+StopsPlace before place (Some status) after =
+    (more : List (ℕ × ℕ)) × FindsFinalAt before place place more status after
 
 -- it found each earlier revision at Error, with an attempt left
 pub record PassesErrors (before : View) (job attempts rev : ℕ) (more : List (ℕ × ℕ)) : Type 0 where
   pub within : rev < attempts
-  pub errors : (r : ℕ) → r < rev → FoundAt before more (place_of job r) 5
+  pub errors : (r : ℕ) → r < rev → FoundAt before more (place_of job r) (word_of (At Error))
 
 -- what a stop does: at the first revision that is not at Error with an attempt left, it moves the
 -- word to Stopped, or finds it final

@@ -1,5 +1,5 @@
 -- One more thing that a board saw or did. (Our own.)
-use Rattle.std.specs.Prelude.{List, [], ◌∷◌, ◌++◌}
+use Rattle.std.specs.Prelude.{[], ◌∷◌, ◌++◌}
 use Rattle.hr_board.specs.View.{finals_with, opens_with}
 use Rattle.hr_board.specs.Past.{Past}
 use Rattle.hr_board.specs.declared.trail.Note.{Note}

@@ -2,9 +2,13 @@
 use Rattle.std.specs.Prelude.{◌≡◌, ℕ, ◌+◌, ◌-◌, ◌*◌, ◌≤◌, nat_eq, nat_le, Bool, ◌&&◌, if◌then◌else◌, List, [], ◌∷◌, ◌++◌, slice_index, slice_set, Option, IfSome}
 use Rattle.std.specs.List.{Contains}
 use Rattle.std.specs.Option.{option_map}
+use Rattle.hr_base.specs.declared.status.Status.TheVariants.{Error}
+use Rattle.hr_base.specs.declared.status.Mark.TheVariants.{Unopened, At}
+use Rattle.hr_base.specs.Status.{word_of}
 use Rattle.hr_board.specs.Moves.{Below}
 
--- a board. Each word stands at a place, and is a number from 0 to 6, the word of its mark.
+-- a board. Each word stands at a place, and is a number from 0 to 6, the word of its mark: the
+-- final ones are those from 4 on.
 pub record View : Type 0 where
   -- its jobs are those from 1 to this number
   pub jobs : ℕ
@@ -64,4 +68,6 @@ pub record Keeps (before after : View) : Type 0 where
 
 -- a later revision is opened only after a note that the one before it is at Error
 abbrev pub OpensAfterError : View → ℕ → ℕ → ℕ → Type 0
-OpensAfterError view job rev from = from ≡ 0 → 1 ≤ rev → Noted view.notes (place_of job (rev - 1)) 5
+OpensAfterError view job rev from =
+    from ≡ word_of Unopened → 1 ≤ rev
+    → Noted view.notes (place_of job (rev - 1)) (word_of (At Error))

@@ -1,16 +1,16 @@
 //! The plain board, for one thread: a word of eight bytes for each revision, and nothing else.
-ghost use Rattle.std.specs.Prelude.{◌≡◌, ◌≤◌, IfOk};
+ghost use Rattle.std.specs.Prelude.{◌≡◌, ◌/◌, ◌≤◌, IfOk, length};
 ghost use Rattle.hr_base.specs.Status.{word_of};
 ghost use Rattle.hr_board.specs.View.{place_of};
 
 use crate::Board;
 use crate::trail::{Note, Trail};
-use hr_base::{JobNo, Mark, Memory};
+use hr_base::{JobNo, Mark, Memory, Status};
 use std::alloc::Global;
 use std::marker::Model;
 
 /// A board of its own, which nobody else moves. It allows every move, and tells its words.
-#[derive(Drop)]
+#[derive(Debug, Drop)]
 pub struct PlainBoard {
     words: Vec<u64>,
     trail: Trail,
@@ -28,6 +28,7 @@ impl Model for PlainBoard {
 
 impl PlainBoard {
     ghost use Rattle.hr_board.specs.Plain.{new_board, IsLawful};
+    ghost use Rattle.hr_board.specs.Current.{IsCurrent};
 
     /// A board of this many jobs, all of whose words are `Unopened`.
     pub fn new(alloc: Global, jobs: u32) -> Result<PlainBoard, Memory>
@@ -37,6 +38,21 @@ impl PlainBoard {
             words: vec![in alloc; 0u64; 4 * jobs as usize]?,
             trail: Trail::new(),
         })
+    }
+
+    /// Where a job stands: its last opened revision with the status of that, or revision 0 with
+    /// `Pending` where none is opened.
+    pub fn current(&self, job: JobNo) -> (u8, Status)
+        requires { (1 ≤ job.0) × (job.0 ≤ length self.now.words / 4) }
+        ensures { IsCurrent self.now.words job.0 4 result }
+    {
+        let mut row = (0, Status::Pending);
+        for rev in 0..4u8 {
+            if let Mark::At(status) = mark_of(self.words[place(job, rev)]) {
+                row = (rev, status);
+            }
+        }
+        row
     }
 
     /// A law: at every moment words, notes, own final moves and opens agree.

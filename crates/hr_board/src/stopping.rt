@@ -22,7 +22,7 @@ pub enum StopAnswer {
 pub fn stop<B: Board>(board: &mut B, job: JobNo, attempts: u8) -> StopAnswer
     requires job { (1 ≤ job.0) × (job.0 ≤ (B.seen board.old).jobs) }
     requires attempts { (1 ≤ attempts) × (attempts ≤ 4) }
-    requires allowed { IsTrue ((B.seen board.old).allows 4) }
+    requires allowed { IsTrue ((B.seen board.old).allows (word_of (Mark.At Status.Stopped))) }
     ensures stops { Stops (B.seen board.old) job.0 attempts result (B.seen board.new) }
     ensures kept { Keeps (B.seen board.old) (B.seen board.new) }
     ensures same { B.same board.old board.new }
@@ -57,8 +57,8 @@ fn leaves_attempt(status: Status, rev: u8, attempts: u8) -> bool
 fn stop_at<B: Board>(board: &mut B, job: JobNo, rev: u8) -> Option<Status>
     requires job { (1 ≤ job.0) × (job.0 ≤ (B.seen board.old).jobs) }
     requires rev { rev ≤ 3 }
-    requires allowed { IsTrue ((B.seen board.old).allows 4) }
-    requires opens { OpensAfterError (B.seen board.old) job.0 rev 0 }
+    requires allowed { IsTrue ((B.seen board.old).allows (word_of (Mark.At Status.Stopped))) }
+    requires opens { OpensAfterError (B.seen board.old) job.0 rev (word_of Mark.Unopened) }
     ensures stops { StopsPlace (B.seen board.old) (place_of job.0 rev) result (B.seen board.new) }
     ensures same { B.same board.old board.new }
 {

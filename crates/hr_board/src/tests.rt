@@ -151,6 +151,7 @@ fn stops_unopened_and_over<B: Board>(rt: &impl Abort, board: &mut B, first: JobN
 fn cases<B: Board>(rt: &impl Abort, board: &mut B)
     requires jobs { 7 ≤ (B.seen board.old).jobs }
     requires free { (word : ℕ) → IsTrue ((B.seen board.old).allows word) }
+    ensures kept { Keeps (B.seen board.old) (B.seen board.new) }
 {
     assert_eq!(rt; board.jobs(), 7);
     stops_between_attempts(rt, board);
@@ -163,7 +164,21 @@ fn cases<B: Board>(rt: &impl Abort, board: &mut B)
 #[test]
 fn the_plain_board_moves_and_stops_as_worked_by_hand(rt: HostRuntime) -> Result<(), Fail> {
     let mut board = PlainBoard::new(rt.alloc(), 7)?;
+    assert_eq!(rt; board.current(JobNo(7)), (0, Status::Pending));
     cases(&rt, &mut board);
+    let rows = [
+        (1, (1, Status::Stopped)),
+        (2, (1, Status::Stopped)),
+        (3, (2, Status::Stopped)),
+        (4, (3, Status::Stopped)),
+        (5, (3, Status::Error)),
+        (6, (0, Status::Stopped)),
+        (7, (0, Status::Success)),
+    ];
+    for (job, row) in rows {
+        assert!(rt; 1 <= job && job <= board.jobs());
+        assert_eq!(rt; board.current(JobNo(job)), row, "job {job}");
+    }
     Ok(())
 }
 

@@ -6,7 +6,7 @@ ghost use Rattle.hr_board.specs.Past.{Past, no_past};
 use std::marker::Model;
 
 /// The notes, own final moves and opens of a board.
-#[derive(Drop)]
+#[derive(Debug, Drop)]
 pub(crate) struct Trail {
     pub(crate) ghost past: { Past },
 }

@@ -1,7 +1,3 @@
-use Rattle.std.proofs.Common.{◌≡◌, subst, Some}
-use Rattle.hr_base.specs.declared.status.Status.{Status}
-use Rattle.hr_board.specs.View.{place_of}
-use Rattle.hr_board.specs.Stopping.{StopsPlace}
 use Rattle.hr_board.proofs.StoppingLemmas.{passed-opens, passed-moved, passed-more, passed-final}
 use Rattle.hr_board.proofs.stopping.stop.Goals as goal
 

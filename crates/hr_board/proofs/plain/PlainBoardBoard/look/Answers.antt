@@ -1,8 +1,5 @@
-use Rattle.std.proofs.Common.{◌≡◌, ℕ, ◌<◌, length, get_or, arith, ◌∙◌, subst, sym}
-use Rattle.std.proofs.lemmas.Grind.{get_or_default_zero}
-use Rattle.hr_board.specs.Plain.{Plain, IsLawful}
-use Rattle.hr_board.specs.Past.{Past}
-use Rattle.hr_board.proofs.PlainLemmas.{lawful-saw, found-word, place-in, word-at}
+use Rattle.std.proofs.Common.{◌∙◌}
+use Rattle.hr_board.proofs.PlainLemmas.{lawful-saw, found-word, word-at}
 use Rattle.hr_board.proofs.plain.PlainBoardBoard.look.Goals as goal
 
 pub invariant_of-self : goal.invariant_of-self
