@@ -1,0 +1,3 @@
+mod MovesLemmas
+mod PlainLemmas
+mod StoppingLemmas

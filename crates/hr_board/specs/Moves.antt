@@ -1,0 +1,29 @@
+-- The moves of a status word, and what is reached by them. (Our own.)
+use Rattle.std.specs.Prelude.{◌≡◌, ◌≢◌, ℕ, ◌≤◌}
+use Rattle.hr_base.specs.declared.status.Status.TheVariants.{Pending, Scheduled, Running, Stopped, Error, Success}
+use Rattle.hr_base.specs.declared.status.Mark.{Mark}
+use Rattle.hr_base.specs.declared.status.Mark.TheVariants.{Unopened, At}
+
+-- a word may move from one mark to another
+abbrev pub IsMove : Mark → Mark → Type 0
+IsMove Unopened (At Pending) = Unit {0}
+IsMove Unopened (At Scheduled) = Unit {0}
+IsMove Unopened (At Stopped) = Unit {0}
+IsMove (At Pending) (At Running) = Unit {0}
+IsMove (At Pending) (At Stopped) = Unit {0}
+IsMove (At Scheduled) (At Running) = Unit {0}
+IsMove (At Scheduled) (At Stopped) = Unit {0}
+IsMove (At Running) (At Stopped) = Unit {0}
+IsMove (At Running) (At Error) = Unit {0}
+IsMove (At Running) (At Success) = Unit {0}
+IsMove from to = ⊥
+
+-- a mark is reached from another by moves, none included
+pub data IsReached (from : Mark) : Mark → Type 0 where
+  at_once : IsReached from from
+  by_move : (mark to : Mark) → IsReached from mark → IsMove mark to → IsReached from to
+
+-- a word is reached from another: it is no lower, it is not Scheduled after Pending, and after a
+-- final one it is the same
+abbrev pub Below : ℕ → ℕ → Type 0
+Below m n = (m ≤ n) × (m ≡ 1 → n ≢ 2) × (4 ≤ m → n ≡ m)
