@@ -4,10 +4,13 @@
 mod check;
 mod digest;
 mod fed;
+mod grammar;
 mod order;
+mod reading;
 
 pub use check::Check;
 pub use digest::Digest;
+pub use reading::{DigestRefused, digest_is_whole};
 
 #[cfg(test)]
 mod tests;
