@@ -14,6 +14,9 @@ impl Model for Fed {
     ghost also_owns = { λ _. ftrue };
 }
 
+// It owns nothing.
+unsafe impl Send for Fed {}
+
 impl Fed {
     pub(crate) fn new() -> Fed
         ensures { result.bytes ≡ [] }

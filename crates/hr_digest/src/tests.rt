@@ -144,3 +144,11 @@ fn a_check_gives_one_digest_however_its_bytes_are_cut(rt: HostRuntime) -> Result
     }
     Ok(())
 }
+
+fn sends<T: Send>(_value: &T) {}
+
+#[test]
+fn a_check_may_go_to_another_thread() {
+    sends(&Check::begin());
+    sends(&Digest::of(b""));
+}
