@@ -1,7 +1,7 @@
 #!/bin/sh
 # How long one look at a hostile pattern and text takes. The time must grow as the product of their
-# lengths: a line's last column, picoseconds for each pair of an item and a byte, stays level or
-# falls. Usage: sh bench/pattern.sh
+# lengths at most: the column of picoseconds for each pair of a pattern's byte and a text's byte
+# stays level or falls in each block. Usage: sh bench/pattern.sh
 set -eu
 top=$(cd "$(dirname "$0")/.." && pwd)
 scratch=$(mktemp -d)
@@ -15,7 +15,7 @@ for crate in hr_base hr_pattern; do
         fi
     done
 done
-printf 'hr_base:\nhr_pattern: hr_base\ntiming: anyhow hr_base hr_pattern\n' >"$scratch/crates.txt"
+printf 'hr_base:\nhr_pattern: hr_base\ntiming: anyhow hr_pattern\n' >"$scratch/crates.txt"
 cat >"$scratch/crates/timing/src/main.rt" <<'RATTLE'
 //! Times looks at hostile patterns and texts.
 #![tactic(auto)]
@@ -26,9 +26,7 @@ use std::alloc::Global;
 use std::rt::Clock;
 use std::time::Instant;
 
-const LOOKS: u32 = 200;
-
-/// So many times the middle, and then the end.
+/// The middle so many times, and then the end.
 fn repeated(alloc: Global, middle: &[u8], times: usize, end: &[u8]) -> Result<Vec<u8>> {
     let mut text = Vec::new(alloc);
     for _ in 0..times {
@@ -38,54 +36,67 @@ fn repeated(alloc: Global, middle: &[u8], times: usize, end: &[u8]) -> Result<Ve
     Ok(text)
 }
 
-fn time(rt: &(impl Print + Clock + AllocGlobal), name: &str, pattern: &[u8], text: &[u8]) -> Result<()> {
+/// Prints how many nanoseconds 100 looks took.
+fn time(
+    rt: &(impl Print + Clock + AllocGlobal),
+    name: &str,
+    pattern: &[u8],
+    text: &[u8],
+) -> Result<()> {
     let Ok(read) = Pattern::read(rt.alloc(), pattern) else {
-        bail!("the pattern is refused");
+        bail!("a pattern is refused");
     };
     let start = Instant::now(rt)?;
     let mut found = false;
-    for _ in 0..LOOKS {
-        found = found ^ read.fits(text);
+    for _ in 0..100 {
+        found = found || read.fits(text);
     }
-    let spent = start.elapsed(rt)?.as_nanos() / 200;
-    let pairs = (pattern.len() as u128 + 1) * (text.len() as u128 + 1);
-    let each = spent.saturating_mul(1000) / pairs.max(1);
+    let spent = start.elapsed(rt)?;
+    let (seconds, rest) = (spent.as_secs(), spent.subsec_nanos());
     let (items, bytes) = (pattern.len(), text.len());
-    println!(rt; "{name:<8} {items:>5} {bytes:>6} {spent:>12} {each:>8} {found}")?;
+    println!(rt; "{name} {items} {bytes} {seconds} {rest} {found}")?;
+    Ok(())
+}
+
+/// The pattern grows, and then the text.
+fn grow(
+    rt: &(impl Print + Clock + AllocGlobal),
+    name: &str,
+    front: &[u8],
+    middle: &[u8],
+    end: &[u8],
+    text: &[u8],
+) -> Result<()> {
+    let alloc = rt.alloc();
+    for (most, times) in [(4, 1024), (16, 1024), (64, 1024), (16, 4096), (16, 16384)] {
+        let mut pattern = front.to_vec(alloc)?;
+        let behind = repeated(alloc, middle, most, end)?;
+        pattern.extend_from_slice(behind.as_slice())?;
+        let whole = repeated(alloc, text, times, b"a".as_slice())?;
+        time(rt, name, pattern.as_slice(), whole.as_slice())?;
+    }
     Ok(())
 }
 
 fn main(rt: HostRuntime) -> Result<()> {
     let alloc = rt.alloc();
-    println!(rt; "pattern  items  bytes  nanoseconds  ps/pair")?;
-    let name = repeated(alloc, b"a", 255, b"")?;
+    let name = repeated(alloc, b"a".as_slice(), 255, b"".as_slice())?;
     for times in [1, 2, 4, 8, 16, 32, 64] {
-        let stars = repeated(alloc, b"*a", times, b"*b")?;
-        time(&rt, "stars", stars.as_slice(), name.as_slice())?;
+        let stars = repeated(alloc, b"*a".as_slice(), times, b"*b".as_slice())?;
+        time(&rt, "name", stars.as_slice(), name.as_slice())?;
     }
-    for bytes in [64, 128, 256, 512, 1024, 2048, 4096] {
-        let stars = repeated(alloc, b"*a", 8, b"*b")?;
-        let text = repeated(alloc, b"a", bytes, b"")?;
-        time(&rt, "stars", stars.as_slice(), text.as_slice())?;
-    }
-    for times in [1, 2, 4, 8, 16, 32, 64] {
-        let path = repeated(alloc, b"**/a/", times, b"**/b")?;
-        let text = repeated(alloc, b"a/", 512, b"a")?;
-        time(&rt, "paths", path.as_slice(), text.as_slice())?;
-    }
-    for parts in [64, 128, 256, 512, 1024, 2048, 4096] {
-        let path = repeated(alloc, b"**/a/", 8, b"**/b")?;
-        let text = repeated(alloc, b"a/", parts, b"a")?;
-        time(&rt, "paths", path.as_slice(), text.as_slice())?;
-    }
-    for times in [8, 32, 128] {
-        let block = repeated(alloc, b"*a*a/", times, b"b")?;
-        let mut path = repeated(alloc, b"**/", 1, b"")?;
-        path.extend_from_slice(block.as_slice())?;
-        let text = repeated(alloc, b"aaaaaaab/", 256, b"a")?;
-        time(&rt, "blocks", path.as_slice(), text.as_slice())?;
-    }
-    Ok(())
+    grow(&rt, "stars", b"".as_slice(), b"*a".as_slice(), b"*b".as_slice(), b"a".as_slice())?;
+    grow(&rt, "run", b"*".as_slice(), b"a".as_slice(), b"b".as_slice(), b"a".as_slice())?;
+    grow(&rt, "paths", b"".as_slice(), b"**/a/".as_slice(), b"**/b".as_slice(), b"a/".as_slice())?;
+    grow(&rt, "block", b"**/".as_slice(), b"a/".as_slice(), b"b".as_slice(), b"a/".as_slice())?;
+    grow(&rt, "both", b"**/".as_slice(), b"*aa/".as_slice(), b"b".as_slice(), b"aaaa/".as_slice())
 }
 RATTLE
-cd "$scratch/crates/timing" && rt run
+cd "$scratch/crates/timing"
+rt run >"$scratch/times"
+awk '
+    BEGIN { print "pattern  items  bytes   ns/look  ps/pair" }
+    {
+        ns = ($4 * 1000000000 + $5) / 100
+        printf "%-7s %6d %6d %9d %8d %s\n", $1, $2, $3, ns, 1000 * ns / (($2 + 1) * ($3 + 1)), $6
+    }' "$scratch/times"
