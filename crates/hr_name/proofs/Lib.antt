@@ -1,0 +1,4 @@
+mod FrontLemmas
+mod NameLemmas
+mod ReachLemmas
+mod TagLemmas
