@@ -38,6 +38,36 @@ fn numbers(alloc: Global, items: &[u64]) -> Result<List<u64>, Memory> {
     Ok(list)
 }
 
+fn list_of(alloc: Global, words: &[&[u8]]) -> Result<Vec<Bytes>, Memory> {
+    let mut all = Vec::new(alloc);
+    for word in words {
+        all.push(Bytes::of(alloc, word)?)?;
+    }
+    Ok(all)
+}
+
+fn source_of(alloc: Global, input: &[u8], plan: &Plan<'_>) -> Result<MemSource, Memory> {
+    let bytes = Bytes::of(alloc, input)?;
+    let pieces = numbers(alloc, plan.pieces)?;
+    MemSource::new(alloc, bytes, pieces, numbers(alloc, plan.failing_reads)?)
+}
+
+// The status of a call, and what it kept.
+fn top_of(
+    alloc: Global,
+    words: &[Bytes],
+    source: &mut MemSource,
+    sink: &mut MemSink,
+) -> (u8, Ending) {
+    let mut kept = Ending {
+        source: None,
+        copied: None,
+        read: None,
+    };
+    let status = top(alloc, words, source, sink, &mut kept);
+    (status, kept)
+}
+
 /// Calls `top` with these words and this input.
 pub fn call(
     alloc: Global,
@@ -45,23 +75,10 @@ pub fn call(
     input: &[u8],
     plan: &Plan<'_>,
 ) -> Result<Outcome, Memory> {
-    let mut all = Vec::new(alloc);
-    for word in words {
-        all.push(Bytes::of(alloc, word)?)?;
-    }
-    let mut source = MemSource::new(
-        alloc,
-        Bytes::of(alloc, input)?,
-        numbers(alloc, plan.pieces)?,
-        numbers(alloc, plan.failing_reads)?,
-    )?;
+    let words = list_of(alloc, words)?;
+    let mut source = source_of(alloc, input, plan)?;
     let mut sink = MemSink::new(alloc, numbers(alloc, plan.failing_writes)?)?;
-    let mut kept = Ending {
-        source: None,
-        copied: None,
-        read: None,
-    };
-    let status = top(alloc, &all, &mut source, &mut sink, &mut kept);
+    let (status, kept) = top_of(alloc, words.as_slice(), &mut source, &mut sink);
     Ok(Outcome {
         status,
         sent: Bytes::of(alloc, sink.sent())?,
