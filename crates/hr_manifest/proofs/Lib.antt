@@ -1,0 +1,9 @@
+mod BackLemmas
+mod DescriptorLemmas
+mod EachLemmas
+mod PieceLemmas
+mod PlainLemmas
+pub mod ReadingLemmas
+mod RoundTripLemmas
+mod TextLemmas
+mod ValueLemmas

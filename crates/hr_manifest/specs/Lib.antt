@@ -1,0 +1,7 @@
+pub mod Canonical
+pub mod Descriptor
+pub mod Document
+pub mod Manifest
+pub mod Reading
+pub mod Step
+pub mod Writable
