@@ -1,0 +1,5 @@
+pub mod Fields
+pub mod Meeting
+pub mod Sound
+pub mod Step
+pub mod Walk
