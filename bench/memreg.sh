@@ -1,0 +1,76 @@
+#!/bin/sh
+# How long tags take that are put in one repository of a registry in memory, and how long they take
+# to be listed. The time for each tag must grow as a logarithm at most: from 4,096 to 65,536 tags it
+# may rise by a third, and not double. Usage: sh bench/memreg.sh
+set -eu
+top=$(cd "$(dirname "$0")/.." && pwd)
+scratch=$(mktemp -d)
+trap 'rm -rf "$scratch"' EXIT
+mkdir -p "$scratch/crates/timing/src"
+for crate in hr_base hr_cause hr_digest hr_name hr_event hr_adapter hr_memreg; do
+    mkdir -p "$scratch/crates/$crate"
+    for part in src specs proofs; do
+        if [ -d "$top/crates/$crate/$part" ]; then
+            cp -R "$top/crates/$crate/$part" "$scratch/crates/$crate/"
+        fi
+    done
+done
+grep -E '^hr_(base|cause|digest|name|event|adapter|memreg):' "$top/crates.txt" >"$scratch/crates.txt"
+printf 'timing: anyhow hr_adapter hr_base hr_digest hr_memreg hr_name\n' >>"$scratch/crates.txt"
+cat >"$scratch/crates/timing/src/main.rt" <<'RATTLE'
+//! Times tags that are put in one repository, and listed.
+#![tactic(auto)]
+
+use anyhow::{Result, bail};
+use hr_adapter::Registry;
+use hr_digest::Digest;
+use hr_memreg::MemRegistry;
+use hr_name::{Name, Tag};
+use std::alloc::Global;
+use std::rt::Clock;
+use std::time::Instant;
+
+/// Puts so many tags, in an order that is neither up nor down.
+fn put(alloc: Global, registry: &mut MemRegistry, repo: &Name, count: u32) -> Result<()> {
+    let digest = Digest::of(b"{}".as_slice());
+    for i in 0..count {
+        let mixed = i.wrapping_mul(2_654_435_761);
+        let text = format!(in alloc; "t{mixed}")?;
+        let Ok(tag) = Tag::read(alloc, text.as_bytes()) else {
+            bail!("a tag is refused");
+        };
+        if registry.hold_tag(repo, tag, digest).is_err() {
+            bail!("no room for a tag");
+        }
+    }
+    Ok(())
+}
+
+fn main(rt: HostRuntime) -> Result<()> {
+    let alloc = rt.alloc();
+    let Ok(repo) = Name::read(alloc, b"library/one".as_slice()) else {
+        bail!("a name is refused");
+    };
+    for count in [4096u32, 16384, 65536] {
+        let mut registry = MemRegistry::empty(alloc);
+        let start = Instant::now(&rt)?;
+        put(alloc, &mut registry, &repo, count)?;
+        let spent = start.elapsed(&rt)?;
+        let again = Instant::now(&rt)?;
+        let Ok(tags) = registry.tags(&repo) else {
+            bail!("the tags are not listed");
+        };
+        let listing = again.elapsed(&rt)?;
+        let listed = tags.view().len();
+        let (s, n) = (spent.as_secs(), spent.subsec_nanos());
+        let (t, m) = (listing.as_secs(), listing.subsec_nanos());
+        println!(rt; "{listed} {s} {n} {t} {m}")?;
+    }
+    Ok(())
+}
+RATTLE
+cd "$scratch/crates/timing"
+rt run >"$scratch/times"
+awk '
+    BEGIN { print "  tags  ns/put  ns/listed" }
+    { printf "%6d %7d %10d\n", $1, ($2 * 1000000000 + $3) / $1, ($4 * 1000000000 + $5) / $1 }' "$scratch/times"

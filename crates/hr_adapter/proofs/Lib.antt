@@ -1,0 +1,5 @@
+pub mod ContentLaws
+pub mod EntryLemmas
+pub mod HonestLaws
+pub mod ShownLaws
+pub mod PutLaws

@@ -1,0 +1,4 @@
+pub mod Change
+pub mod Shown
+pub mod Mem
+pub mod Listed
