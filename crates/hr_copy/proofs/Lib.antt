@@ -1,0 +1,9 @@
+pub mod CallLemmas
+pub mod CopyingLemmas
+pub mod FoundLemmas
+pub mod GoingLemmas
+pub mod LastLemmas
+pub mod PlainLemmas
+pub mod ShowLemmas
+pub mod StepLemmas
+pub mod WroteLemmas

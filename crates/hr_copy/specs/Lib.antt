@@ -1,0 +1,4 @@
+pub mod Calls
+pub mod Going
+pub mod Journal
+pub mod Outcome

@@ -1,0 +1,40 @@
+//! Why a copy ends with an error. (Our own.)
+ghost use Rattle.std.specs.Prelude.{◌≡◌};
+
+use hr_adapter::RegFault;
+use hr_base::RegNo;
+use hr_digest::Digest;
+use hr_event::Cause;
+use hr_graph::WalkRefused;
+use hr_manifest::Unreadable;
+
+/// The cause of a registry that gave no answer, with its count of faults before and after.
+pub(crate) fn of_fault(fault: RegFault, reg: RegNo, before: u64, after: u64) -> Cause {
+    match fault {
+        RegFault::Failed => Cause::Fault { reg, before, after },
+        RegFault::TooLong { len } => Cause::TooLong { len },
+        RegFault::Memory => Cause::Memory,
+    }
+}
+
+/// The cause of a manifest with that digest that is not read.
+pub(crate) fn of_manifest(why: Unreadable, digest: Digest) -> Cause {
+    match why {
+        Unreadable::TooLong { len } => Cause::TooLong { len },
+        Unreadable::Media | Unreadable::NotJson | Unreadable::Field { .. } => {
+            Cause::Unreadable { digest }
+        }
+        Unreadable::TooMany { count } => Cause::TooMany { count },
+        Unreadable::Memory => Cause::Memory,
+    }
+}
+
+/// The cause of a walk that goes no further.
+pub(crate) fn of_walk(why: WalkRefused) -> Cause {
+    match why {
+        WalkRefused::TooDeep { digest } => Cause::TooDeep { digest },
+        WalkRefused::TooMany { count } => Cause::TooMany { count },
+        WalkRefused::SizeDiffers { digest, said, got } => Cause::SizeDiffers { digest, said, got },
+        WalkRefused::Memory => Cause::Memory,
+    }
+}

@@ -1,0 +1,10 @@
+pub mod AgreeLemmas
+pub mod BackLemmas
+pub mod ChangeLemmas
+pub mod ClosedLemmas
+pub mod GrowsLemmas
+pub mod HonestLemmas
+pub mod LogLemmas
+pub mod PromiseLemmas
+pub mod ReadLemmas
+pub mod SourceLemmas

@@ -1,0 +1,130 @@
+-- Where the manifests came from that tags were put to name.
+use Rattle.std.proofs.Common.{◌≡◌, inl, inr, refl, sym, ap, subst, ◌∙◌, ℕ, Bool, true, false, ◌&&◌, List, [], ◌∷◌, ◌++◌, length, take, drop, take-append-drop, eqb-true, arith}
+use Rattle.std.specs.Prelude.{⊤, Option, Some, Contains}
+use Rattle.std.proofs.lemmas.Option.{MatchOption-at_some}
+use Rattle.std.proofs.lemmas.List.Elements.{Contains-append_left, Contains-append_right}
+use Rattle.hr_digest.specs.declared.digest.Digest.{Digest}
+use Rattle.hr_event.specs.declared.entry.Entry.{Entry}
+use Rattle.hr_event.specs.declared.entry.How.{How}
+use Rattle.hr_event.specs.declared.entry.How.TheVariants.{Put, Unsure, Same, Kept}
+use Rattle.hr_event.specs.declared.entry.What.{What}
+use Rattle.hr_event.specs.declared.entry.What.TheVariants.{ReadTag, Show}
+use Rattle.hr_digest.specs.Digest.{digest_of}
+use Rattle.hr_adapter.specs.Content.{Content, tag_at}
+use Rattle.hr_adapter.specs.Reg.{Row}
+use Rattle.hr_journal.specs.OneEach.{OneEach}
+use Rattle.hr_journal.specs.Promise.{AreRead, IsPut, Promise, WasPut}
+use Rattle.hr_journal.specs.Puts.{Does, Puts, Shows}
+use Rattle.hr_journal.specs.Says.{read_under}
+use Rattle.hr_journal.specs.Shown.{IsComplete, WasRead}
+use Rattle.hr_journal.specs.Still.{ReadsNoTag}
+use Rattle.hr_journal.proofs.LogLemmas.{contains_cases, contains_later, last_is_said, read_under_is}
+
+-- ---- each manifest that was read is one that the source showed
+
+abbrev row_of : (ℕ → List ℕ) → Entry → List ℕ → List ℕ → List ℕ → Row
+row_of from e tag media bytes = record { repo = from e.job.0; tag = tag; media = media; bytes = bytes }
+
+pub read_nothing : (from : ℕ → List ℕ) (ever : List Row) → AreRead from ever []
+read_nothing from ever e tag media bytes (k, within, is) says = absurd (omega arith)
+
+read_next : (from : ℕ → List ℕ) (ever : List Row) (e : Entry) (es : List Entry) → AreRead from ever es
+    → ((tag media bytes : List ℕ) → e.what ≡ ReadTag tag media bytes → Contains ever (row_of from e tag media bytes))
+    → AreRead from ever (e ∷ es)
+read_next from ever e es read now f tag media bytes logged says = elim (contains_cases e es f logged) [
+  | inl is ↦ subst (λ (x : Entry). Contains ever (row_of from x tag media bytes)) is
+      (now tag media bytes (ap (λ (x : Entry). x.what) is ∙ says))
+  | inr older ↦ read f tag media bytes older says
+]
+
+pub read_on : (from : ℕ → List ℕ) (ever : List Row) (e : Entry) (es : List Entry) → AreRead from ever es
+    → ReadsNoTag e.what → AreRead from ever (e ∷ es)
+read_on from ever e es read none =
+    read_next from ever e es read (λ tag media bytes says. absurd (subst (λ (w : What). ReadsNoTag w) says none))
+
+pub read_row : (from : ℕ → List ℕ) (ever : List Row) (e : Entry) (es : List Entry) (tag media bytes : List ℕ)
+    → AreRead from ever es → e.what ≡ ReadTag tag media bytes
+    → Contains ever (record { repo = from e.job.0; tag = tag; media = media; bytes = bytes })
+    → AreRead from ever (e ∷ es)
+read_row from ever e es tag media bytes read is row =
+    read_next from ever e es read (λ t m b says.
+    let alike : ReadTag tag media bytes ≡ ReadTag t m b = sym is ∙ says in
+    let tags : tag ≡ t = cc in
+    let medias : media ≡ m = cc in
+    let texts : bytes ≡ b = cc in
+    subst (λ (x : List ℕ). Contains ever (row_of from e t m x)) texts
+    (subst (λ (x : List ℕ). Contains ever (row_of from e t x bytes)) medias
+    (subst (λ (x : List ℕ). Contains ever (row_of from e x media bytes)) tags row)))
+
+-- the source may show more as time goes on
+pub read_more : (from : ℕ → List ℕ) (ever more : List Row) (log : List Entry) → take (length ever) more ≡ ever
+    → AreRead from ever log → AreRead from more log
+read_more from ever more log grew read e tag media bytes logged says =
+    let row = row_of from e tag media bytes in
+    subst (λ (xs : List Row). Contains xs row) (take-append-drop (length ever) more)
+    (Contains-append_left (take (length ever) more) (drop (length ever) more) row
+    (subst (λ (xs : List Row). Contains xs row) (sym grew) (read e tag media bytes logged says)))
+
+-- ---- each tag that was put names a manifest that was read
+
+both_true : (a b : Bool) → a && b ≡ true → (a ≡ true) × (b ≡ true)
+both_true true b is = (refl, is)
+both_true false b is = cc
+
+shows_read : (repo : List ℕ) (e : Entry) (tag : List ℕ) (d : Digest) (old : Option Digest) (how : How) (es : List Entry) (b c : Content)
+    → Shows repo e.job.0 e.rev tag d old how es b c → WasRead es e tag d
+shows_read repo e tag d old how es b c shows =
+    let said = last_is_said (read_under tag) e.job.0 e.rev es shows.stored shows.read in
+    let ours : (_ ≡ true) × (_ ≡ true) = both_true _ _ said.ours in record {
+      entry = said.entry;
+      media = shows.stored.media;
+      bytes = shows.stored.bytes;
+      kids = shows.kids;
+      logged = said.logged;
+      job = eqb-true said.entry.job.0 e.job.0 ours.0;
+      rev = eqb-true said.entry.rev e.rev ours.1;
+      says = read_under_is tag said.entry.what shows.stored said.says;
+      own = shows.own;
+      reads = shows.reads;
+    }
+
+does_read : (repo : List ℕ) (e : Entry) (tag : List ℕ) (d : Digest) (old : Option Digest) (how : How) (es : List Entry) (b c : Content)
+    → IsPut how → Does repo e.job.0 e.rev (Show tag d old how) es b c → WasRead es e tag d
+does_read repo e tag d old Put es b c put does = shows_read repo e tag d old Put es b c does
+does_read repo e tag d old Unsure es b c put does = shows_read repo e tag d old Unsure es b c does
+does_read repo e tag d old Same es b c put does = elim put [ inl is ↦ cc | inr is ↦ cc ]
+does_read repo e tag d old Kept es b c put does = elim put [ inl is ↦ cc | inr is ↦ cc ]
+
+pub put_was_read : (to : ℕ → List ℕ) (o : Content) (newer older : List Entry) (e : Entry) (c : Content)
+    → (tag : List ℕ) (d : Digest) (old : Option Digest) (how : How) → Puts to o (newer ++ e ∷ older) c
+    → e.what ≡ Show tag d old how → IsPut how → WasRead older e tag d
+put_was_read to o [] older e c tag d old how puts says put =
+    does_read (to e.job.0) e tag d old how older puts.0 c put
+    (subst (λ (w : What). Does (to e.job.0) e.job.0 e.rev w older puts.0 c) says puts.2)
+put_was_read to o (f ∷ newer) older e c tag d old how puts says put =
+    put_was_read to o newer older e puts.0 tag d old how puts.1 says put
+
+-- and the source showed it there
+pub read_was_shown : (from : ℕ → List ℕ) (ever : List Row) (newer older : List Entry) (e : Entry) (tag : List ℕ) (d : Digest)
+    → AreRead from ever (newer ++ e ∷ older) → (was : WasRead older e tag d)
+    → Contains ever (record { repo = from e.job.0; tag = tag; media = was.media; bytes = was.bytes })
+read_was_shown from ever newer older e tag d read was =
+    subst (λ (r : List ℕ). Contains ever (record { repo = r; tag = tag; media = was.media; bytes = was.bytes }))
+    (ap from was.job)
+    (read was.entry tag was.media was.bytes
+    (Contains-append_right newer (e ∷ older) was.entry (contains_later e older was.entry was.logged)) was.says)
+
+-- ---- the promise, read
+
+pub promise_read : (to : ℕ → List ℕ) (o : Content) (log : List Entry) (c : Content) (repo tag : List ℕ) (d : Digest)
+    → Promise to o log c → OneEach o log → tag_at c repo tag ≡ Some d → WasPut to log repo tag d
+    → IsComplete c repo d
+promise_read to o log c repo tag d promise each names was =
+    let whole = promise.whole each repo tag d names was in record {
+      stored = whole.stored;
+      kids = whole.kids;
+      there = whole.there;
+      own = MatchOption-at_some ⊤ (λ m. digest_of m.bytes ≡ d) whole.stored whole.there (promise.honest.manifests repo d);
+      reads = whole.reads;
+      each = whole.each;
+    }

@@ -1,0 +1,52 @@
+-- Which entries of a journal put something. (Our own.)
+use Rattle.hr_event.specs.declared.entry.How.TheVariants.{Put, Unsure, Same, Kept}
+use Rattle.hr_event.specs.declared.entry.What.{What}
+use Rattle.hr_event.specs.declared.entry.What.TheVariants.{Began, ReadTag, Looked, ReadChild, HasBlob, GotBlob, PutBlob, PutChild, Show, Ended, Dropped}
+
+-- no tag was put
+abbrev pub PutsNoTag : What → Type 0
+PutsNoTag Began = Unit {0}
+PutsNoTag (ReadTag tag media bytes) = Unit {0}
+PutsNoTag (Looked tag found) = Unit {0}
+PutsNoTag (ReadChild d media bytes) = Unit {0}
+PutsNoTag (HasBlob d len) = Unit {0}
+PutsNoTag (GotBlob d len) = Unit {0}
+PutsNoTag (PutBlob d sure) = Unit {0}
+PutsNoTag (PutChild d sure) = Unit {0}
+PutsNoTag (Show tag d old Put) = ⊥
+PutsNoTag (Show tag d old Unsure) = ⊥
+PutsNoTag (Show tag d old Same) = Unit {0}
+PutsNoTag (Show tag d old Kept) = Unit {0}
+PutsNoTag (Ended status cause) = Unit {0}
+PutsNoTag Dropped = Unit {0}
+
+-- nothing was put at all
+abbrev pub PutsNothing : What → Type 0
+PutsNothing Began = Unit {0}
+PutsNothing (ReadTag tag media bytes) = Unit {0}
+PutsNothing (Looked tag found) = Unit {0}
+PutsNothing (ReadChild d media bytes) = Unit {0}
+PutsNothing (HasBlob d len) = Unit {0}
+PutsNothing (GotBlob d len) = Unit {0}
+PutsNothing (PutBlob d sure) = ⊥
+PutsNothing (PutChild d sure) = ⊥
+PutsNothing (Show tag d old Put) = ⊥
+PutsNothing (Show tag d old Unsure) = ⊥
+PutsNothing (Show tag d old Same) = Unit {0}
+PutsNothing (Show tag d old Kept) = Unit {0}
+PutsNothing (Ended status cause) = Unit {0}
+PutsNothing Dropped = Unit {0}
+
+-- no manifest was read under a tag
+abbrev pub ReadsNoTag : What → Type 0
+ReadsNoTag Began = Unit {0}
+ReadsNoTag (ReadTag tag media bytes) = ⊥
+ReadsNoTag (Looked tag found) = Unit {0}
+ReadsNoTag (ReadChild d media bytes) = Unit {0}
+ReadsNoTag (HasBlob d len) = Unit {0}
+ReadsNoTag (GotBlob d len) = Unit {0}
+ReadsNoTag (PutBlob d sure) = Unit {0}
+ReadsNoTag (PutChild d sure) = Unit {0}
+ReadsNoTag (Show tag d old how) = Unit {0}
+ReadsNoTag (Ended status cause) = Unit {0}
+ReadsNoTag Dropped = Unit {0}
