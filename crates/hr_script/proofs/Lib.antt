@@ -1,0 +1,6 @@
+pub mod HexLemmas
+pub mod MeaningLemmas
+pub mod NumberLemmas
+pub mod OneLemmas
+pub mod ReadingLemmas
+pub mod SplitLemmas

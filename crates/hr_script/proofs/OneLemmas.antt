@@ -1,0 +1,177 @@
+-- Each meaning has one right answer and no other, and so has each text.
+use Rattle.std.proofs.Common.{◌≡◌, ◌+◌, ◌||◌, ◌&&◌, ℕ, Bool, true, false, List, [], ◌∷◌, Option, Some, None, Result, Ok, Err, refl, sym, ap, ◌∙◌, subst}
+use Rattle.hex.proofs.HexLemmas.{decode_of-encode_lower}
+use Rattle.hex.specs.Hex.{decode_of}
+use Rattle.hr_base.specs.declared.number.PolicyNo.{PolicyNo}
+use Rattle.hr_base.specs.declared.number.RegNo.{RegNo}
+use Rattle.hr_event.specs.declared.event.Event.TheVariants as event
+use Rattle.hr_script.specs.declared.kind.Kind.{Kind}
+use Rattle.hr_script.specs.declared.kind.Kind.TheVariants as kinds
+use Rattle.hr_script.specs.declared.line.Line.{Line}
+use Rattle.hr_script.specs.declared.line.Line.TheVariants.{Image, Index, Orphan, Event}
+use Rattle.hr_script.specs.declared.reading.Lines.{Lines}
+use Rattle.hr_script.specs.declared.refusal.Why.{Why}
+use Rattle.hr_script.specs.declared.refusal.Why.TheVariants as why
+use Rattle.hr_script.specs.Kind.{is_setup, kind_in, kind_of}
+use Rattle.hr_script.specs.Line.{arguments_of, finish_of, image_of, index_of, line_meaning, manifest_of, meaning_of, orphan_of, tags_of, trigger_of, unless_misplaced, where_read}
+use Rattle.hr_script.specs.Meaning.{Follows, Meaning, each, stands_for, ◌>>=◌}
+use Rattle.hr_script.specs.Reading.{AreRead, GoesOn, IsReading, nothing, stopped, with_line}
+use Rattle.hr_script.specs.Text.{is_read, lines_of, words_of}
+use Rattle.hr_script.specs.Word.{IsLayerWord, IsMedia, IsNameWord, IsNumber, IsRegistry, IsTagWord, layer_in, media_in, name_in, policy_in, registry_in, tag_in}
+
+-- two right answers are equal, and there is no want of one
+pub record IsOne {A : Type 0} (meaning : Meaning A) : Type 0 where
+  pub same : (one other : Result A Why) → meaning one → meaning other → one ≡ other
+  pub some : ((answer : Result A Why) → meaning answer → ⊥) → ⊥
+
+one_equal : {A : Type 0} (right : Result A Why) → IsOne (λ answer. answer ≡ right)
+one_equal right = record { same = λ one other p q. p ∙ sym q; some = λ none. none right refl }
+
+one_value : {A : Type 0} (Is : A → Type 0) (why : Why) → ((one other : A) → Is one → Is other → one ≡ other) → IsOne (stands_for Is why)
+one_value {A} Is why equal = record { same = go; some = λ none. none (Err why) (refl, λ value is. none (Ok value) is) }
+  where
+    go : (one other : Result A Why) → stands_for Is why one → stands_for Is why other → one ≡ other
+    go (Ok v) (Ok u) h k = ap Ok (equal v u h k)
+    go (Ok v) (Err x) h k = absurd (k.1 v h)
+    go (Err w) (Ok u) h k = absurd (h.1 u k)
+    go (Err w) (Err x) h k = ap Err (h.0 ∙ sym k.0)
+
+one_chain : {A B : Type 0} (first : Meaning A) (next : A → Meaning B) → IsOne first → ((value : A) → IsOne (next value)) → IsOne (first >>= next)
+one_chain {A} {B} first next one each_one = record { same = both; some = λ none. one.some (λ value h. go_on value h none) }
+  where
+    followed : (value : Result A Why) (r s : Result B Why) → Follows next value r → Follows next value s → r ≡ s
+    followed (Ok v) r s h k = (each_one v).same r s h k
+    followed (Err w) r s h k = h ∙ sym k
+
+    both : (r s : Result B Why) → (first >>= next) r → (first >>= next) s → r ≡ s
+    both r s h k =
+        let e : h.0 ≡ k.0 = one.same h.0 k.0 h.1 k.1 in
+        followed h.0 r s h.2 (subst (λ (v : Result A Why). Follows next v s) (sym e) k.2)
+
+    go_on : (value : Result A Why) → first value → ((answer : Result B Why) → (first >>= next) answer → ⊥) → ⊥
+    go_on (Ok v) h none = (each_one v).some (λ answer k. none answer (Ok v, h, k))
+    go_on (Err w) h none = none (Err w) (Err w, h, refl)
+
+one_each : {W A : Type 0} (of : W → Meaning A) → ((word : W) → IsOne (of word)) → (words : List W) → IsOne (each of words)
+one_each of one [] = one_equal (Ok [])
+one_each of one (word ∷ words) = one_chain (of word) _ (one word) (λ value. one_chain (each of words) _ (one_each of one words) (λ values. one_equal (Ok (value ∷ values))))
+
+-- ---- words
+
+one_registry : (word : List ℕ) → IsOne (registry_in word)
+one_registry word = one_value (IsRegistry word) why.Number (λ one other h k.
+    let e : one.0 ≡ other.0 = sym h.number.value ∙ k.number.value in
+    let made : ℕ → RegNo = λ n. record { 0 = n } in
+    ap made e)
+
+one_policy : (word : List ℕ) → IsOne (policy_in word)
+one_policy word = one_value (λ (policy : PolicyNo). IsNumber word policy.0) why.Number (λ one other h k.
+    let e : one.0 ≡ other.0 = sym h.value ∙ k.value in
+    let made : ℕ → PolicyNo = λ n. record { 0 = n } in
+    ap made e)
+
+one_name : (word : List ℕ) → IsOne (name_in word)
+one_name word = one_value (IsNameWord word) why.Name (λ one other h k. h.same ∙ sym k.same)
+
+one_tag : (word : List ℕ) → IsOne (tag_in word)
+one_tag word = one_value (IsTagWord word) why.Tag (λ one other h k. h.same ∙ sym k.same)
+
+one_media : (word : List ℕ) → IsOne (media_in word)
+one_media word = one_value (IsMedia word) why.Policy (λ one other h k. h.same ∙ sym k.same)
+
+same_layer : (word one other : List ℕ) → IsLayerWord word one → IsLayerWord word other → one ≡ other
+same_layer word one other h k =
+    let first = decode_of-encode_lower one h.whole.bytes in
+    let second = decode_of-encode_lower other k.whole.bytes in
+    let e = ap decode_of (h.spelled ∙ sym k.spelled) in
+    cc (first, second, e)
+
+one_layer : (word : List ℕ) → IsOne (layer_in word)
+one_layer word = one_value (IsLayerWord word) why.Hex (same_layer word)
+
+-- ---- lines
+
+one_image : (words : List (List ℕ)) → IsOne (image_of words)
+one_image (reg ∷ repo ∷ tag ∷ layers) =
+    one_chain (registry_in reg) _ (one_registry reg) (λ a. one_chain (name_in repo) _ (one_name repo) (λ b. one_chain (tag_in tag) _ (one_tag tag) (λ d. one_chain (each layer_in layers) _ (one_each layer_in one_layer layers) (λ e. one_equal (Ok (Image a b d e))))))
+one_image _ = one_equal (Err why.Count)
+
+one_index : (words : List (List ℕ)) → IsOne (index_of words)
+one_index (reg ∷ repo ∷ tag ∷ children) =
+    one_chain (registry_in reg) _ (one_registry reg) (λ a. one_chain (name_in repo) _ (one_name repo) (λ b. one_chain (tag_in tag) _ (one_tag tag) (λ d. one_chain (each tag_in children) _ (one_each tag_in one_tag children) (λ e. one_equal (Ok (Index a b d e))))))
+one_index _ = one_equal (Err why.Count)
+
+one_orphan : (words : List (List ℕ)) → IsOne (orphan_of words)
+one_orphan (reg ∷ repo ∷ layers) =
+    one_chain (registry_in reg) _ (one_registry reg) (λ a. one_chain (name_in repo) _ (one_name repo) (λ b. one_chain (each layer_in layers) _ (one_each layer_in one_layer layers) (λ d. one_equal (Ok (Orphan a b d)))))
+one_orphan _ = one_equal (Err why.Count)
+
+one_manifest : (words : List (List ℕ)) → IsOne (manifest_of words)
+one_manifest (reg ∷ repo ∷ tag ∷ media ∷ first ∷ others) =
+    one_chain (registry_in reg) _ (one_registry reg) (λ a. one_chain (name_in repo) _ (one_name repo) (λ b. one_chain (tag_in tag) _ (one_tag tag) (λ d. one_chain (media_in media) _ (one_media media) (λ e. one_equal _))))
+one_manifest _ = one_equal (Err why.Count)
+
+one_trigger : (words : List (List ℕ)) → IsOne (trigger_of words)
+one_trigger (policy ∷ []) = one_chain (policy_in policy) _ (one_policy policy) (λ a. one_equal (Ok (Event (event.Trigger a))))
+one_trigger _ = one_equal (Err why.Count)
+
+one_finish : (words : List (List ℕ)) → IsOne (finish_of words)
+one_finish [] = one_equal (Ok (Event event.Finish))
+one_finish _ = one_equal (Err why.Count)
+
+one_tags : (words : List (List ℕ)) → IsOne (tags_of words)
+one_tags (reg ∷ []) = one_chain (registry_in reg) _ (one_registry reg) (λ a. one_equal (Ok (Event (event.Tags a))))
+one_tags _ = one_equal (Err why.Count)
+
+one_arguments : (kind : Kind) (words : List (List ℕ)) → IsOne (arguments_of kind words)
+one_arguments kinds.Image words = one_image words
+one_arguments kinds.Index words = one_index words
+one_arguments kinds.Orphan words = one_orphan words
+one_arguments kinds.Manifest words = one_manifest words
+one_arguments kinds.Trigger words = one_trigger words
+one_arguments kinds.Finish words = one_finish words
+one_arguments kinds.Tags words = one_tags words
+
+one_placed : (misplaced : Bool) (meaning : Meaning Line) → IsOne meaning → IsOne (unless_misplaced misplaced meaning)
+one_placed true meaning one = one_equal (Err why.Order)
+one_placed false meaning one = one
+
+one_meaning : (after : Bool) (words : List (List ℕ)) → IsOne (meaning_of after words)
+one_meaning after [] = one_equal (Err why.Word)
+one_meaning after (first ∷ others) = one_chain (kind_in first) _ (one_equal (kind_of first)) (λ kind. one_placed (after && is_setup kind) (arguments_of kind others) (one_arguments kind others))
+
+one_where : (read : Bool) (meaning : Meaning (Option Line)) → IsOne meaning → IsOne (where_read read meaning)
+one_where true meaning one = one
+one_where false meaning one = one_equal (Ok None)
+
+one_line_meaning : (after : Bool) (line : List ℕ) → IsOne (line_meaning after line)
+one_line_meaning after line = one_where (is_read line) _ (one_chain (meaning_of after (words_of line)) _ (one_meaning after (words_of line)) (λ meant. one_equal (Ok (Some meant))))
+
+-- ---- texts
+
+same_lines : (number : ℕ) (after : Bool) (lines : List (List ℕ)) (one other : Lines) → AreRead number after lines one → AreRead number after lines other → one ≡ other
+same_lines number after [] one other h k = h ∙ sym k
+same_lines number after (line ∷ lines) one other h k =
+    let e : h.0 ≡ k.0 = (one_line_meaning after line).same h.0 k.0 h.1 k.1 in
+    go (λ later a b. same_lines (number + 1) later lines a b) h.0 h.2 (subst (λ (m : Result (Option Line) Why). GoesOn (λ later. AreRead (number + 1) later lines) number after m other) (sym e) k.2)
+  where
+    go : ((later : Bool) (a b : Lines) → AreRead (number + 1) later lines a → AreRead (number + 1) later lines b → a ≡ b) → (m : Result (Option Line) Why)
+        → GoesOn (λ later. AreRead (number + 1) later lines) number after m one → GoesOn (λ later. AreRead (number + 1) later lines) number after m other → one ≡ other
+    go ih (Ok None) p q = ih after one other p q
+    go ih (Ok (Some l)) p q = p.2 ∙ ap (with_line number l) (ih (after || _) p.0 q.0 p.1 q.1) ∙ sym q.2
+    go ih (Err why) p q = p ∙ sym q
+
+some_lines : (number : ℕ) (after : Bool) (lines : List (List ℕ)) → ((found : Lines) → AreRead number after lines found → ⊥) → ⊥
+some_lines number after [] none = none nothing refl
+some_lines number after (line ∷ lines) none = (one_line_meaning after line).some (λ meaning h. go (λ later. some_lines (number + 1) later lines) meaning h)
+  where
+    go : ((later : Bool) → ((found : Lines) → AreRead (number + 1) later lines found → ⊥) → ⊥) → (meaning : Result (Option Line) Why) → line_meaning after line meaning → ⊥
+    go ih (Ok None) h = ih after (λ found k. none found (Ok None, h, k))
+    go ih (Ok (Some l)) h = ih _ (λ found k. none (with_line number l found) (Ok (Some l), h, (found, k, refl)))
+    go ih (Err why) h = none (stopped number why) (Err why, h, refl)
+
+pub same_reading : (text : List ℕ) (one other : Lines) → IsReading text one → IsReading text other → one ≡ other
+same_reading text one other h k = same_lines 1 false (lines_of text) one other h k
+
+pub some_reading : (text : List ℕ) → ((lines : Lines) → IsReading text lines → ⊥) → ⊥
+some_reading text none = some_lines 1 false (lines_of text) none

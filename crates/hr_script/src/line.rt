@@ -1,0 +1,53 @@
+//! One line of a script. (Our own.)
+ghost use Rattle.std.specs.Prelude.{◌≡◌};
+ghost use Rattle.hr_script.specs.Line.{is_event};
+
+use hr_base::{Bytes, List, RegNo};
+use hr_event::Event;
+use hr_name::{Name, Tag};
+
+/// A line that was read. A registry's number is 1 to 8.
+#[derive(Debug, Drop, PartialEq, Eq)]
+pub enum Line {
+    /// Stores an image with the config `{}` and these layers, each of one byte or more, and its
+    /// tag.
+    Image {
+        reg: RegNo,
+        repo: Name,
+        tag: Tag,
+        layers: List<Bytes>,
+    },
+    /// Stores the index of the manifests that these tags of the repository name, and its tag.
+    Index {
+        reg: RegNo,
+        repo: Name,
+        tag: Tag,
+        children: List<Tag>,
+    },
+    /// Stores the manifest of such an image alone, without its blobs and without a tag.
+    Orphan {
+        reg: RegNo,
+        repo: Name,
+        layers: List<Bytes>,
+    },
+    /// Stores a text of any length as a manifest of this media type, and its tag. The media type,
+    /// which may be empty, has no byte that JSON escapes.
+    Manifest {
+        reg: RegNo,
+        repo: Name,
+        tag: Tag,
+        media: Bytes,
+        text: Bytes,
+    },
+    /// An event: today `Trigger`, `Finish` or `Tags`.
+    Event(Event),
+}
+
+impl Line {
+    /// Whether it is an event, and no setup line.
+    pub fn is_event(&self) -> bool
+        ensures { result ≡ is_event self.now }
+    {
+        matches!(self, Line::Event(_))
+    }
+}
