@@ -1,3 +1,4 @@
+pub mod CaseLemmas
 pub mod HexLemmas
 pub mod MeaningLemmas
 pub mod NumberLemmas

@@ -1,0 +1,168 @@
+-- Lines that were read name registries that are there, and media types that can be written.
+use Rattle.std.proofs.Common.{◌≡◌, ◌≢◌, ◌<◌, ◌≤◌, ◌+◌, ℕ, Bool, true, false, not, ◌&&◌, ◌||◌, List, [], ◌∷◌, ◌++◌, length, Option, Some, None, Result, Ok, Err, refl, sym, ap, subst, ◌∙◌, arith}
+use Rattle.std.specs.List.{AllByRecursion, AllPass, list_all, list_any}
+use Rattle.std.proofs.lemmas.Bool.Decides.{nat_tests}
+use Rattle.std.proofs.lemmas.List.Sums.{AllPass-from_list_all}
+use Rattle.hr_base.specs.declared.number.RegNo.{RegNo}
+use Rattle.hr_event.specs.declared.event.Event.{Event}
+use Rattle.hr_event.specs.declared.event.Event.TheVariants as event
+use Rattle.hr_manifest.specs.Writable.{IsPlain, is_unescaped}
+use Rattle.hr_script.specs.Line.{finish_of, image_of, index_of, is_event, line_meaning, manifest_of, meaning_of, orphan_of, tags_of, trigger_of, where_read}
+use Rattle.hr_script.specs.Meaning.{Follows, Meaning, each, gives, ◌>>=◌}
+use Rattle.hr_script.specs.Reading.{AreRead, GoesOn, IsReading}
+use Rattle.hr_script.specs.Text.{is_read, lines_of, words_of}
+use Rattle.hr_script.specs.Word.{IsMedia, IsRegistry, is_escaped, layer_in, media_in, name_in, policy_in, registry_in, tag_in}
+use Rattle.hr_script.specs.declared.line.Line.{Line}
+use Rattle.hr_script.specs.declared.line.Line.TheVariants as line
+use Rattle.hr_script.specs.declared.reading.Lines.{Lines}
+use Rattle.hr_script.specs.declared.reading.Numbered.{Numbered}
+use Rattle.hr_script.specs.declared.refusal.Why.{Why}
+use Rattle.hr_script.proofs.CaseLemmas.{OfEachKind, line_cases, through}
+use Rattle.hr_replay.specs.Fit.{IsFit, IsNumbered, IsScripted}
+use Rattle.hr_replay.specs.Opening.{event_in, events_in}
+use Rattle.hr_replay.proofs.ContentLemmas.{AreFit}
+
+-- ---- media types
+
+byte_plain : (b : ℕ) → is_escaped b ≡ false → is_unescaped b ≡ true
+byte_plain b h = grind (arith, nat_tests)
+
+neither : (a b : Bool) → (a || b) ≡ false → (a ≡ false) × (b ≡ false)
+neither true b h = cc h
+neither false b h = (refl, h)
+
+both : (a b : Bool) → a ≡ true → b ≡ true → (a && b) ≡ true
+both true b p q = q
+both false b p q = cc p
+
+bytes_plain : (word : List ℕ) → list_any is_escaped word ≡ false → list_all is_unescaped word ≡ true
+bytes_plain [] h = refl
+bytes_plain (b ∷ word) h =
+    let parts = neither (is_escaped b) (list_any is_escaped word) h in
+    both (is_unescaped b) (list_all is_unescaped word) (byte_plain b parts.0) (bytes_plain word parts.1)
+
+media_plain : (word media : List ℕ) → IsMedia word media → IsPlain media
+media_plain word media is =
+    subst (λ (bytes : List ℕ). IsPlain bytes) (sym is.same) (AllPass-from_list_all is_unescaped word (bytes_plain word is.plain))
+
+numbered : (word : List ℕ) (reg : RegNo) → IsRegistry word reg → IsNumbered reg
+numbered word reg is = record { some = is.some; few = is.few }
+
+-- ---- the kinds of lines
+
+line_or : Line → Result Line Why → Line
+line_or other (Ok l) = l
+line_or other (Err why) = other
+
+given : (l m : Line) → gives m (Ok l) → IsFit m → IsFit l
+unfolding line_or
+given l m is fit = subst IsFit (sym (ap (line_or l) is)) fit
+
+image_fit : (words : List (List ℕ)) (l : Line) → image_of words (Ok l) → IsFit l
+image_fit [] l is = cc is
+image_fit (a ∷ []) l is = cc is
+image_fit (a ∷ b ∷ []) l is = cc is
+image_fit (a ∷ b ∷ c ∷ others) l is =
+    through IsFit (registry_in a) _ (λ reg one. through IsFit (name_in b) _ (λ repo two. through IsFit (tag_in c) _ (λ tag three. through IsFit (each layer_in others) _
+    (λ layers four l then. given l (line.Image reg repo tag layers) then (numbered a reg one))))) l is
+
+index_fit : (words : List (List ℕ)) (l : Line) → index_of words (Ok l) → IsFit l
+index_fit [] l is = cc is
+index_fit (a ∷ []) l is = cc is
+index_fit (a ∷ b ∷ []) l is = cc is
+index_fit (a ∷ b ∷ c ∷ others) l is =
+    through IsFit (registry_in a) _ (λ reg one. through IsFit (name_in b) _ (λ repo two. through IsFit (tag_in c) _ (λ tag three. through IsFit (each tag_in others) _
+    (λ children four l then. given l (line.Index reg repo tag children) then (numbered a reg one))))) l is
+
+orphan_fit : (words : List (List ℕ)) (l : Line) → orphan_of words (Ok l) → IsFit l
+orphan_fit [] l is = cc is
+orphan_fit (a ∷ []) l is = cc is
+orphan_fit (a ∷ b ∷ others) l is =
+    through IsFit (registry_in a) _ (λ reg one. through IsFit (name_in b) _ (λ repo two. through IsFit (each layer_in others) _
+    (λ layers three l then. given l (line.Orphan reg repo layers) then (numbered a reg one)))) l is
+
+manifest_fit : (words : List (List ℕ)) (l : Line) → manifest_of words (Ok l) → IsFit l
+manifest_fit [] l is = cc is
+manifest_fit (a ∷ []) l is = cc is
+manifest_fit (a ∷ b ∷ []) l is = cc is
+manifest_fit (a ∷ b ∷ c ∷ []) l is = cc is
+manifest_fit (a ∷ b ∷ c ∷ d ∷ []) l is = cc is
+manifest_fit (a ∷ b ∷ c ∷ d ∷ e ∷ others) l is =
+    through IsFit (registry_in a) _ (λ reg one. through IsFit (name_in b) _ (λ repo two. through IsFit (tag_in c) _ (λ tag three. through IsFit (media_in d) _
+    (λ media four l then. given l (line.Manifest reg repo tag media _) then (numbered a reg one, media_plain d media four))))) l is
+
+trigger_fit : (words : List (List ℕ)) (l : Line) → trigger_of words (Ok l) → IsFit l
+trigger_fit [] l is = cc is
+trigger_fit (a ∷ []) l is = through IsFit (policy_in a) _ (λ policy one l then. given l (line.Event (event.Trigger policy)) then tt) l is
+trigger_fit (a ∷ b ∷ others) l is = cc is
+
+finish_fit : (words : List (List ℕ)) (l : Line) → finish_of words (Ok l) → IsFit l
+finish_fit [] l is = given l (line.Event event.Finish) is tt
+finish_fit (a ∷ others) l is = cc is
+
+tags_fit : (words : List (List ℕ)) (l : Line) → tags_of words (Ok l) → IsFit l
+tags_fit [] l is = cc is
+tags_fit (a ∷ []) l is = through IsFit (registry_in a) _ (λ reg one l then. given l (line.Event (event.Tags reg)) then (numbered a reg one)) l is
+tags_fit (a ∷ b ∷ others) l is = cc is
+
+each_fit : OfEachKind IsFit
+each_fit = record {
+  image = image_fit;
+  index = index_fit;
+  orphan = orphan_fit;
+  manifest = manifest_fit;
+  trigger = trigger_fit;
+  finish = finish_fit;
+  tags = tags_fit;
+}
+
+-- ---- lines one after the other
+
+abbrev FitOrNone : Result (Option Line) Why → Type 0
+FitOrNone (Ok (Some l)) = IsFit l
+FitOrNone (Ok None) = Unit {0}
+FitOrNone (Err why) = Unit {0}
+
+some_fit : (first : Meaning Line) → ((l : Line) → first (Ok l) → IsFit l) → (m : Result (Option Line) Why) → (first >>= λ meant. gives (Some meant)) m → FitOrNone m
+some_fit first fit m is = go is.0 is.1 is.2
+  where
+    go : (value : Result Line Why) → first value → Follows (λ meant. gives (Some meant)) value m → FitOrNone m
+    go (Ok l) was then = subst FitOrNone (sym then) (fit l was)
+    go (Err why) was then = subst FitOrNone (sym then) tt
+
+read_fit : (read : Bool) (meaning : Meaning (Option Line)) → ((m : Result (Option Line) Why) → meaning m → FitOrNone m) → (m : Result (Option Line) Why) → where_read read meaning m → FitOrNone m
+read_fit true meaning fit m is = fit m is
+read_fit false meaning fit m is = subst FitOrNone (sym is) tt
+
+line_fit : (after : Bool) (text : List ℕ) (m : Result (Option Line) Why) → line_meaning after text m → FitOrNone m
+line_fit after text m is =
+    read_fit (is_read text) _ (λ n given. some_fit (meaning_of after (words_of text)) (λ l was. line_cases IsFit each_fit after (words_of text) l was) n given) m is
+
+goes_fit : (Behind : Bool → Lines → Type 0) → ((later : Bool) (found : Lines) → Behind later found → AreFit found.lines)
+    → (number : ℕ) (after : Bool) (m : Result (Option Line) Why) (found : Lines) → FitOrNone m → GoesOn Behind number after m found → AreFit found.lines
+goes_fit Behind rest number after (Ok None) found fit is = rest after found is
+goes_fit Behind rest number after (Ok (Some l)) found fit is =
+    subst (λ (f : Lines). AreFit f.lines) (sym is.2) (fit, rest (after || is_event l) is.0 is.1)
+goes_fit Behind rest number after (Err why) found fit is = subst (λ (f : Lines). AreFit f.lines) (sym is) tt
+
+all_fit : (number : ℕ) (after : Bool) (texts : List (List ℕ)) (found : Lines) → AreRead number after texts found → AreFit found.lines
+all_fit number after [] found is = subst (λ (f : Lines). AreFit f.lines) (sym is) tt
+all_fit number after (text ∷ texts) found is =
+    goes_fit (λ later. AreRead (number + 1) later texts) (λ later rest given. all_fit (number + 1) later texts rest given)
+    number after is.0 found (line_fit after text is.0 is.1) is.2
+
+pub reading_fit : (text : List ℕ) (lines : Lines) → IsReading text lines → AreFit lines.lines
+reading_fit text lines is = all_fit 1 false (lines_of text) lines is
+
+-- ---- events
+
+event_fit : (l : Line) → IsFit l → (rest : List Event) → AllByRecursion IsScripted rest → AllByRecursion IsScripted (event_in l ++ rest)
+event_fit (line.Image reg repo tag layers) fit rest others = others
+event_fit (line.Index reg repo tag children) fit rest others = others
+event_fit (line.Orphan reg repo layers) fit rest others = others
+event_fit (line.Manifest reg repo tag media text) fit rest others = others
+event_fit (line.Event e) fit rest others = (fit, others)
+
+pub events_fit : (lines : List Numbered) → AreFit lines → AllByRecursion IsScripted (events_in lines)
+events_fit [] fit = tt
+events_fit (numbered ∷ rest) fit = event_fit numbered.line fit.0 (events_in rest) (events_fit rest fit.1)

@@ -1,0 +1,117 @@
+-- What the events of a script do. (Our own.)
+use Rattle.std.specs.Prelude.{◌≡◌, ◌≢◌, ◌<◌, ◌≤◌, ◌+◌, ◌⊎◌, ℕ, Bool, true, false, is_some, List, [], ◌∷◌, ◌++◌, length, slice_get, slice_set, take, Contains, Option, Some, None, IfSome}
+use Rattle.std.specs.List.{AllByRecursion, list_all}
+use Rattle.hr_base.specs.declared.status.Status.{Status}
+use Rattle.hr_base.specs.declared.status.Status.TheVariants.{Success}
+use Rattle.hr_event.specs.declared.entry.Entry.{Entry}
+use Rattle.hr_event.specs.declared.event.Event.{Event}
+use Rattle.hr_event.specs.declared.event.Event.TheVariants as event
+use Rattle.hr_event.specs.declared.task.TaskSpec.{TaskSpec}
+use Rattle.hr_event.specs.declared.task.Turn.{Turn}
+use Rattle.hr_adapter.specs.Content.{Content}
+use Rattle.hr_copy.specs.Going.{AreFound}
+use Rattle.hr_copy.specs.Outcome.{EndedSo, IsFinished}
+use Rattle.hr_journal.specs.Promise.{Promise}
+use Rattle.hr_replay.specs.Opening.{Contents, content_in}
+use Rattle.hr_replay.specs.Plan.{plan_of, job_limit}
+use Rattle.hr_replay.specs.Text.{created_text, failed_text, full_text, idle_text, no_policy_text, tags_text}
+
+-- what a script has made so far
+pub record State : Type 0 where
+  pub contents : Contents
+  -- the journal, newest first
+  pub log : List Entry
+  -- what the jobs copy, from job 1 on
+  pub tasks : List TaskSpec
+  -- how the jobs that were run ended, from job 1 on
+  pub ends : List Status
+  -- how many tasks each execution has, from execution 1 on; none where its plan was refused
+  pub execs : List (Option ℕ)
+
+-- a script that begins with these contents
+abbrev pub opening : Contents → State
+opening contents = record { contents = contents; log = []; tasks = []; ends = []; execs = [] }
+
+-- each job has this place: the repository that it reads, and the one that it writes
+abbrev pub Places : (ℕ → List ℕ) → List TaskSpec → Type 0
+Places place tasks = (at : ℕ) → IfSome (slice_get tasks at)
+    (λ spec. (place (at + 1) ≡ spec.from) × (place (at + 1) ≡ spec.to))
+
+-- the turn of a job: its one revision
+abbrev pub turn_of : ℕ → Turn
+turn_of job = record { job = record { 0 = job }; rev = 0; attempts = 1 }
+
+-- a job that was run ended so, and with success only where each of its tags is finished
+pub record Ran (log : List Entry) (job : ℕ) (spec : TaskSpec) (status : Status) : Type 0 where
+  pub ended : EndedSo (turn_of job) status log
+  pub finished : status ≡ Success → AllByRecursion (IsFinished (turn_of job) log) spec.tags
+
+-- waiting jobs were run, one after the other from the first: they wrote to registry 2 alone
+pub record Goes (before after : State) : Type 0 where
+  pub tasks : after.tasks ≡ before.tasks
+  pub execs : after.execs ≡ before.execs
+  pub copied : Content
+  pub contents : after.contents ≡ slice_set before.contents 1 copied
+  pub ended : List Status
+  pub joined : after.ends ≡ before.ends ++ ended
+  pub ran : (at : ℕ) → length before.ends ≤ at → IfSome (slice_get after.ends at)
+      (λ status. IfSome (slice_get before.tasks at) (λ spec. Ran after.log (at + 1) spec status))
+  -- the older entries stay
+  pub more : List Entry
+  pub logged : after.log ≡ more ++ before.log
+  -- the destination keeps the promise, and the journal says what the source shows
+  pub promised : (place : ℕ → List ℕ) (o : Content) → Places place before.tasks
+      → Promise place o before.log (content_in before.contents 2)
+      → Promise place o after.log (content_in after.contents 2)
+  pub found : (place : ℕ → List ℕ) → Places place before.tasks
+      → AreFound place (content_in before.contents 1) before.log
+      → AreFound place (content_in before.contents 1) after.log
+
+-- all waiting jobs were run
+pub record Finishes (before after : State) : Type 0 where
+  pub goes : Goes before after
+  pub all : length after.ends ≡ length before.tasks
+
+-- a trigger of policy 1, by the plan of registry 1
+abbrev pub Triggers : State → Option (List TaskSpec) → List ℕ → State → Type 0
+Triggers before None text after =
+    (after ≡ record before { execs = before.execs ++ None ∷ [] })
+    × (text ≡ failed_text (length before.execs + 1))
+Triggers before (Some specs) text after =
+    ((length before.tasks + length specs ≤ job_limit)
+    × (after ≡ record before { tasks = before.tasks ++ specs; execs = before.execs ++ Some (length specs) ∷ [] })
+    × (text ≡ created_text (length before.execs + 1) (length specs)))
+    ⊎ ((job_limit < length before.tasks + length specs) × (after ≡ before) × (text ≡ full_text job_limit))
+
+-- what an event makes of a state, and its answer
+abbrev pub Does : State → Event → List ℕ → State → Type 0
+Does before (event.Trigger policy) text after =
+    ((policy.0 ≡ 1) × Triggers before (plan_of (content_in before.contents 1)) text after)
+    ⊎ ((policy.0 ≢ 1) × (after ≡ before) × (text ≡ no_policy_text policy.0))
+Does before event.Finish text after = Finishes before after × (text ≡ idle_text)
+Does before (event.Tags reg) text after = (after ≡ before) × (text ≡ tags_text (content_in before.contents reg.0))
+Does before _ text after = ⊥
+
+-- events one after the other, with their answers
+abbrev pub Runs : State → List Event → List ℕ → State → Type 0
+Runs before [] said after = (after ≡ before) × (said ≡ [])
+Runs before (event ∷ events) said after = (mid : State) × (answer : List ℕ) × (later : List ℕ)
+    × Does before event answer mid × Runs mid events later after × (said ≡ answer ++ later)
+
+abbrev pub is_success : Status → Bool
+is_success Success = true
+is_success _ = false
+
+-- each of these executions has a plan, and each of so many jobs ended with success
+abbrev pub AreDone : List (Option ℕ) → List Status → ℕ → Type 0
+AreDone execs ends jobs = (list_all is_some execs ≡ true) × (length ends ≡ jobs) × (list_all is_success ends ≡ true)
+
+-- each execution succeeded: its plan was taken, and each of its tasks ended with success
+abbrev pub IsDone : State → Type 0
+IsDone state = AreDone state.execs state.ends (length state.tasks)
+
+-- what holds of a state at each moment: eight registries, few jobs, and no end before its job
+pub record IsOrdered (state : State) : Type 0 where
+  pub eight : length state.contents ≡ 8
+  pub few : length state.tasks ≤ job_limit
+  pub known : length state.ends ≤ length state.tasks
