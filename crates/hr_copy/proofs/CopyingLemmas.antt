@@ -27,7 +27,7 @@ use Rattle.hr_journal.specs.Grows.{Grows}
 use Rattle.hr_journal.specs.Promise.{Promise}
 use Rattle.hr_journal.specs.Puts.{Does, MaybePut}
 use Rattle.hr_journal.specs.Says.{last, read_under, child_read}
-use Rattle.hr_journal.specs.Still.{PutsNoTag, PutsNothing}
+use Rattle.hr_journal.specs.Still.{IsStill, PutsNoTag}
 use Rattle.hr_journal.proofs.ChangeLemmas.{does_nothing, nothing_puts_no_tag}
 use Rattle.hr_journal.proofs.ClosedLemmas.{closed_made, each_then, stands_closed_grow}
 use Rattle.hr_journal.proofs.GrowsLemmas.{does_grow}
@@ -146,7 +146,7 @@ module _ (to : ℕ → List ℕ) (o : Content) (turn : Turn) (repo tag : List �
     readable = copying.readable;
   }
 
-  pub copying_still : (log : List Entry) (view : View) (c : Content) (what : What) → PutsNothing what
+  pub copying_still : (log : List Entry) (view : View) (c : Content) (what : What) → IsStill what
       → ((t : List ℕ) → read_under t what ≡ None) → ((d : Digest) → child_read d what ≡ None)
       → Copying to o turn repo tag log view c → Copying to o turn repo tag (entry_of turn what ∷ log) view c
   copying_still log view c what still tags kids copying =

@@ -6,7 +6,8 @@ use Rattle.hr_digest.specs.Digest.{digest_of}
 use Rattle.hr_digest.specs.declared.digest.Digest.{Digest}
 use Rattle.hr_event.specs.declared.entry.Entry.{Entry}
 use Rattle.hr_event.specs.declared.entry.What.{What}
-use Rattle.hr_event.specs.declared.entry.What.TheVariants.{GotBlob, HasBlob, PutBlob, PutChild, ReadChild}
+use Rattle.hr_event.specs.declared.entry.What.TheVariants.{GotBlob, HasBlob, Looked, PutBlob, PutChild, ReadChild}
+use Rattle.hr_event.specs.declared.task.TaskSpec.{TaskSpec}
 use Rattle.hr_event.specs.declared.task.Turn.{Turn}
 use Rattle.hr_manifest.specs.Manifest.{Parts}
 use Rattle.hr_adapter.specs.Content.{Content, blob_at, with_blob, with_manifest}
@@ -19,7 +20,7 @@ use Rattle.hr_graph.specs.declared.need.Need.TheVariants as need
 use Rattle.hr_graph.proofs.LastLemmas.{comes_last}
 use Rattle.hr_journal.specs.Promise.{Promise}
 use Rattle.hr_journal.specs.Says.{last, read_under}
-use Rattle.hr_journal.specs.Still.{PutsNothing}
+use Rattle.hr_journal.specs.Still.{IsStill}
 use Rattle.hr_journal.proofs.PromiseLemmas.{promise_on, promise_still}
 use Rattle.hr_copy.specs.Calls.{Changed, MaybeChanged, Untouched}
 use Rattle.hr_copy.specs.Going.{Copying, Going, IsReadable, Promised, stored_of}
@@ -27,27 +28,40 @@ use Rattle.hr_copy.specs.Outcome.{IsSilent, Wrote, entry_of}
 use Rattle.hr_copy.proofs.CallLemmas.{holds_changed, holds_maybe, holds_on, holds_so, holds_with}
 use Rattle.hr_copy.proofs.CopyingLemmas.{blob_promise, child_promise, copied_copying, copying_settled, found_copying, is_low, put_copying, taken_copying}
 use Rattle.hr_copy.proofs.StepLemmas.{asked_closed, copied_is, found_is, put_is, putting_is, taken_is}
-use Rattle.hr_copy.proofs.WroteLemmas.{silent_puts, wrote_so}
+use Rattle.hr_copy.proofs.WroteLemmas.{silent_puts, wrote_one, wrote_so}
 
 -- ---- entries that put nothing
 
-each_entry : (turn : Turn) (more : List What) → AllByRecursion PutsNothing more
-    → AllByRecursion (λ e. PutsNothing e.what) (map (entry_of turn) more)
+each_entry : (turn : Turn) (more : List What) → AllByRecursion IsStill more
+    → AllByRecursion (λ e. IsStill e.what) (map (entry_of turn) more)
 each_entry turn [] each = tt
 each_entry turn (what ∷ more) each = (each.0, each_entry turn more each.1)
 
 pub still_promised : (to : ℕ → List ℕ) (o : Content) (turn : Turn) (log newer : List Entry) (before after : Reg)
-    → Wrote PutsNothing turn log newer → Untouched before after → Promised to o log before → Promised to o newer after
+    → Wrote IsStill turn log newer → Untouched before after → Promised to o log before → Promised to o newer after
 still_promised to o turn log newer before after wrote kept promised =
     subst (λ (es : List Entry). Promised to o es after) (sym wrote.joined)
     (holds_on {P = Promise to o log} {Q = Promise to o (map (entry_of turn) wrote.more ++ log)} before after kept
     (λ c promise. promise_still to o (map (entry_of turn) wrote.more) log c promise (each_entry turn wrote.more wrote.each))
     promised)
 
-pub silent_promised : (to : ℕ → List ℕ) (o : Content) (turn : Turn) (log newer : List Entry) (before after : Reg)
-    → Wrote IsSilent turn log newer → Untouched before after → Promised to o log before → Promised to o newer after
-silent_promised to o turn log newer before after wrote =
-    still_promised to o turn log newer before after (wrote_so {P = IsSilent} {Q = PutsNothing} turn log newer silent_puts wrote)
+pub silent_promised : (to : ℕ → List ℕ) (o : Content) (spec : TaskSpec) (turn : Turn) (log newer : List Entry) (before after : Reg)
+    → Wrote (IsSilent spec) turn log newer → Untouched before after → Promised to o log before → Promised to o newer after
+silent_promised to o spec turn log newer before after wrote =
+    still_promised to o turn log newer before after (wrote_so {P = IsSilent spec} {Q = IsStill} turn log newer (silent_puts spec) wrote)
+
+-- a tag was looked at
+pub looked_promised : (to : ℕ → List ℕ) (o : Content) (turn : Turn) (log newer : List Entry) (tag : List ℕ)
+    → (found : Option Digest) (before after : Reg) → Untouched before after
+    → newer ≡ entry_of turn (Looked tag found) ∷ log → Promised to o log before → Promised to o newer after
+looked_promised to o turn log newer tag found before after kept is =
+    still_promised to o turn log newer before after
+    (wrote_one {P = IsStill} turn log newer (Looked tag found) is tt) kept
+
+pub promised_untouched : (to : ℕ → List ℕ) (o : Content) (log : List Entry) (before after : Reg) → Untouched before after
+    → Promised to o log before → Promised to o log after
+promised_untouched to o log before after kept =
+    holds_on {P = Promise to o log} {Q = Promise to o log} before after kept (λ c promise. promise)
 
 pub promised_log : (to : ℕ → List ℕ) (o : Content) (log newer : List Entry) (reg : Reg) → newer ≡ log
     → Promised to o log reg → Promised to o newer reg
@@ -70,10 +84,10 @@ module _ (to : ℕ → List ℕ) (o : Content) (turn : Turn) (repo tag : List �
       holds_on {P = Copying to o turn repo tag log view} {Q = Promise to o log} before after kept
       (λ c copying. copying.promise) going
 
-  pub going_silent : (view : View) (before after : Reg) → Wrote IsSilent turn log newer → Untouched before after
+  pub going_silent : (spec : TaskSpec) (view : View) (before after : Reg) → Wrote (IsSilent spec) turn log newer → Untouched before after
       → Going to o turn repo tag log view before → Promised to o newer after
-  going_silent view before after wrote kept going =
-      silent_promised to o turn log newer before after wrote kept (going_promised view before going)
+  going_silent spec view before after wrote kept going =
+      silent_promised to o spec turn log newer before after wrote kept (going_promised view before going)
 
   -- the walk of a tag begins
   pub begun_going : (root : Digest) (manifest : Parts) (new : View) (reg : Reg) → begun root manifest ≡ Ok new

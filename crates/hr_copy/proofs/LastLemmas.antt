@@ -4,19 +4,21 @@ use Rattle.std.proofs.lemmas.Bool.{eq-eqb}
 use Rattle.std.specs.Prelude.{Option, Some, None, map, nat_eq, if◌then◌else◌}
 use Rattle.std.specs.List.{AllByRecursion}
 use Rattle.std.specs.Option.{option_or}
+use Rattle.hr_digest.specs.Digest.{digest_of}
 use Rattle.hr_digest.specs.declared.digest.Digest.{Digest}
 use Rattle.hr_digest.specs.Order.{digest_eq, digests_equal}
 use Rattle.hr_event.specs.declared.entry.Entry.{Entry}
 use Rattle.hr_event.specs.declared.entry.What.{What}
-use Rattle.hr_event.specs.declared.entry.What.TheVariants.{ReadTag, ReadChild, GotBlob}
+use Rattle.hr_event.specs.declared.entry.What.TheVariants.{ReadTag, Looked, ReadChild, GotBlob}
 use Rattle.hr_event.specs.declared.task.Turn.{Turn}
+use Rattle.hr_manifest.specs.Manifest.{Parts}
 use Rattle.hr_graph.specs.Meeting.{moved_to}
 use Rattle.hr_graph.specs.Walk.{is_open}
 use Rattle.hr_graph.specs.declared.opened.Opened.{Opened}
 use Rattle.hr_journal.specs.Says.{last, is_of, read_under, child_read, blob_read}
 use Rattle.hr_journal.specs.Still.{ReadsNoTag}
 use Rattle.std.specs.Cmp.Lexicographic.{nat_list_eq_equiv}
-use Rattle.hr_copy.specs.Going.{WereRead}
+use Rattle.hr_copy.specs.Going.{IsReadable, LastRead, WereRead, stored_of}
 use Rattle.hr_copy.specs.Outcome.{Wrote, entry_of}
 
 or_none : {X : Type 0} (ours : Bool) (first later : Option X) → first ≡ None
@@ -86,6 +88,32 @@ pub tag_stays : (turn : Turn) (tag : List ℕ) (older newer : List Entry) → Wr
     → last (read_under tag) turn.job.0 turn.rev newer ≡ last (read_under tag) turn.job.0 turn.rev older
 tag_stays turn tag older newer wrote =
     ap (last (read_under tag) turn.job.0 turn.rev) wrote.joined ∙ tag_more turn tag wrote.more older wrote.each
+
+-- ---- the manifest of a tag
+
+-- room was taken after it was read
+pub last_read : (turn : Turn) (tag : List ℕ) (log newer : List Entry) (d : Digest) (m : Parts)
+    → digest_of m.bytes ≡ d → IsReadable m → newer ≡ log
+    → last (read_under tag) turn.job.0 turn.rev log ≡ Some (stored_of m) → LastRead turn tag newer d
+last_read turn tag log newer d m own reads is read = record {
+  stored = stored_of m;
+  kids = m.children;
+  own = own;
+  reads = reads;
+  read = ap (last (read_under tag) turn.job.0 turn.rev) is ∙ read;
+}
+
+-- a look leaves it as it was read
+pub looked_read : (turn : Turn) (tag : List ℕ) (log newer : List Entry) (d : Digest) (looked : List ℕ) (found : Option Digest)
+    → newer ≡ entry_of turn (Looked looked found) ∷ log → LastRead turn tag log d → LastRead turn tag newer d
+looked_read turn tag log newer d looked found is was = record {
+  stored = was.stored;
+  kids = was.kids;
+  own = was.own;
+  reads = was.reads;
+  read = ap (last (read_under tag) turn.job.0 turn.rev) is
+      ∙ last_still (read_under tag) turn.job.0 turn.rev (entry_of turn (Looked looked found)) log refl ∙ was.read;
+}
 
 -- ---- the open manifests of a walk
 

@@ -1,5 +1,6 @@
 pub mod CallLemmas
 pub mod CopyingLemmas
+pub mod DecidesLemmas
 pub mod FoundLemmas
 pub mod GoingLemmas
 pub mod LastLemmas

@@ -1,6 +1,6 @@
 -- A tag that was put, or may have been, keeps the promise: all below its root stands.
-use Rattle.std.proofs.Common.{◌≡◌, inl, inr, refl, sym, ap, subst, ◌∙◌, ℕ, ◌+◌, List, [], ◌∷◌}
-use Rattle.std.specs.Prelude.{Option, Some, None, IfSome, ◌≢◌}
+use Rattle.std.proofs.Common.{◌≡◌, inl, inr, refl, sym, ap, subst, ◌∙◌, ℕ, ◌+◌, Bool, List, [], ◌∷◌}
+use Rattle.std.specs.Prelude.{Option, Some, None, IfSome}
 use Rattle.std.specs.List.{AllByRecursion}
 use Rattle.hr_digest.specs.Digest.{digest_of}
 use Rattle.hr_digest.specs.declared.digest.Digest.{Digest}
@@ -23,14 +23,14 @@ use Rattle.hr_graph.proofs.LastLemmas.{comes_last}
 use Rattle.hr_graph.proofs.SoundLemmas.{all_passed}
 use Rattle.hr_journal.specs.Graph.{StandsUnder}
 use Rattle.hr_journal.specs.Promise.{IsPut, Promise}
-use Rattle.hr_journal.specs.Puts.{MayShow, Shows}
+use Rattle.hr_journal.specs.Puts.{IsLeft, MayShow, Shows, Stays}
 use Rattle.hr_journal.specs.Says.{last, read_under}
 use Rattle.hr_journal.proofs.LogLemmas.{each_before}
 use Rattle.hr_journal.proofs.PromiseLemmas.{promise_on, promise_shows_under}
-use Rattle.hr_copy.specs.Calls.{ShowsBy, ShowsTold, Untouched}
-use Rattle.hr_copy.specs.Going.{Copying, Going, IsReadable, Promised, WereRead, stored_of}
-use Rattle.hr_copy.specs.Outcome.{entry_of}
-use Rattle.hr_copy.proofs.CallLemmas.{same_told}
+use Rattle.hr_copy.specs.Calls.{IsDecided, ShowsBy, ShowsTold, Untouched}
+use Rattle.hr_copy.specs.Going.{Copying, Going, IsReadable, LastRead, Promised, WereRead, stored_of}
+use Rattle.hr_copy.specs.Outcome.{Decides, entry_of}
+use Rattle.hr_copy.proofs.CallLemmas.{holds_with, same_told, untouched_itself}
 use Rattle.hr_copy.proofs.CopyingLemmas.{each_passed_stands}
 use Rattle.hr_copy.proofs.StepLemmas.{putting_is}
 
@@ -116,16 +116,68 @@ module _ (to : ℕ → List ℕ) (o : Content) (turn : Turn) (repo tag : List �
       (each_passed_stands b repo view root.newest.level root.level (copying.standing (each_before o e log each))
       root.newest.manifest.children root.each))
 
-  -- the tag shows what it showed
-  kept_promise : (view : View) (b : Content) (d : Digest) (old : Option Digest) → Copying to o turn repo tag log view b
-      → Promise to o (entry_of turn (Show tag d old how.Kept) ∷ log) b
-  kept_promise view b d old copying =
-      promise_on to o (entry_of turn (Show tag d old how.Kept)) log b b copying.promise refl tt
+  -- the root is the manifest that was read last under the tag
+  root_last : (view : View) (b : Content) (d : Digest) (m : Parts) → IsRoot view d m
+      → Copying to o turn repo tag log view b → LastRead turn tag log d
+  root_last view b d m root copying = record {
+    stored = stored_of root.newest.manifest;
+    kids = root.newest.manifest.children;
+    own = root.own;
+    reads = root_reads view.opened root.newest root.opened copying.readable;
+    read = root_read view root.newest root.opened copying.read;
+  }
 
-  same_promise : (view : View) (b : Content) (d : Digest) (old : Option Digest) → Copying to o turn repo tag log view b
+  -- the tag was left as it was
+  stays : (b : Content) (d : Digest) (old : Option Digest) (answer : How) → LastRead turn tag log d → to turn.job.0 ≡ repo
+      → old ≡ head_at b repo (by.Tag tag) → IsLeft answer d old
+      → Stays (to turn.job.0) turn.job.0 turn.rev tag d old answer log b b
+  stays b d old answer read placed looked left = record {
+    stored = read.stored;
+    kids = read.kids;
+    own = read.own;
+    reads = read.reads;
+    read = read.read;
+    looked = looked ∙ ap (λ r. head_at b r (by.Tag tag)) (sym placed);
+    left = left;
+    same = refl;
+  }
+
+  kept_promise : (b : Content) (d : Digest) (old : Option Digest) → LastRead turn tag log d → to turn.job.0 ≡ repo
+      → old ≡ head_at b repo (by.Tag tag) → (old ≡ Some d → ⊥) → Promise to o log b
+      → Promise to o (entry_of turn (Show tag d old how.Kept) ∷ log) b
+  kept_promise b d old read placed looked other promise =
+      promise_on to o (entry_of turn (Show tag d old how.Kept)) log b b promise
+      (stays b d old how.Kept read placed looked other) tt
+
+  same_promise : (b : Content) (d : Digest) (old : Option Digest) → LastRead turn tag log d → to turn.job.0 ≡ repo
+      → old ≡ head_at b repo (by.Tag tag) → old ≡ Some d → Promise to o log b
       → Promise to o (entry_of turn (Show tag d old how.Same) ∷ log) b
-  same_promise view b d old copying =
-      promise_on to o (entry_of turn (Show tag d old how.Same)) log b b copying.promise refl tt
+  same_promise b d old read placed looked same promise =
+      promise_on to o (entry_of turn (Show tag d old how.Same)) log b b promise
+      (stays b d old how.Same read placed looked same) tt
+
+  left_promise : (override : Bool) (b : Content) (d : Digest) (old : Option Digest) (came : How) → LastRead turn tag log d
+      → to turn.job.0 ≡ repo → IsDecided came → Decides override d old came → old ≡ head_at b repo (by.Tag tag)
+      → Promise to o log b → Promise to o (entry_of turn (Show tag d old came) ∷ log) b
+  left_promise override b d old how.Put read placed decided decides looked promise =
+      elim decided [ inl is ↦ cc | inr is ↦ cc ]
+  left_promise override b d old how.Unsure read placed decided decides looked promise =
+      elim decided [ inl is ↦ cc | inr is ↦ cc ]
+  left_promise override b d old how.Same read placed decided decides looked promise =
+      same_promise b d old read placed looked decides promise
+  left_promise override b d old how.Kept read placed decided decides looked promise =
+      kept_promise b d old read placed looked decides.0 promise
+
+  -- the tag was looked at, and left
+  pub left_promised : (override : Bool) (newer : List Entry) (reg : Reg) (d : Digest) (old : Option Digest) (came : How)
+      → LastRead turn tag log d → to turn.job.0 ≡ repo → IfSome reg.told (λ c. old ≡ head_at c repo (by.Tag tag))
+      → IsDecided came → Decides override d old came → newer ≡ entry_of turn (Show tag d old came) ∷ log
+      → Promised to o log reg → Promised to o newer reg
+  left_promised override newer reg d old came read placed looked decided decides is promised =
+      subst (λ (es : List Entry). Promised to o es reg) (sym is)
+      (holds_with {P = Promise to o log} {T = λ c. old ≡ head_at c repo (by.Tag tag)}
+      {Q = Promise to o (entry_of turn (Show tag d old came) ∷ log)} reg reg (untouched_itself reg) looked
+      (λ c there. left_promise override c d old came read placed decided decides there) promised)
 
   -- ---- by how the put came out
 
@@ -137,23 +189,23 @@ module _ (to : ℕ → List ℕ) (o : Content) (turn : Turn) (repo tag : List �
       → shown repo (by.Tag tag) m.media m.bytes b ≡ with_tag (with_manifest b repo d (stored_of m)) repo tag d
   shown_is b d m own = ap (λ k. with_tag (with_manifest b repo k (stored_of m)) repo tag k) own
 
-  told_promise : (came : How) (view : View) (b : Content) (after : Option Content) (d : Digest) (m : Parts) (old : Option Digest)
+  told_promise : (override : Bool) (came : How) (view : View) (b : Content) (after : Option Content) (d : Digest) (m : Parts) (old : Option Digest)
       → IsRoot view d m → to turn.job.0 ≡ repo → old ≡ head_at b repo (by.Tag tag)
-      → (IsPut came → old ≡ Some d → ⊥) → ShowsTold came repo (by.Tag tag) m (Some b) after
+      → Decides override d old came → ShowsTold came repo (by.Tag tag) m (Some b) after
       → Copying to o turn repo tag log view b
       → IfSome after (Promise to o (entry_of turn (Show tag d old came) ∷ log))
-  told_promise how.Put view b after d m old root placed looked other does copying =
+  told_promise override how.Put view b after d m old root placed looked decides does copying =
       let P = Promise to o (entry_of turn (Show tag d old how.Put) ∷ log) in
       let own : digest_of m.bytes ≡ d = ap (λ (x : Parts). digest_of x.bytes) (sym root.manifest) ∙ root.own in
       same_told P (Some (shown repo (by.Tag tag) m.media m.bytes b)) after does
-      (shown_promise view b (shown repo (by.Tag tag) m.media m.bytes b) d m old how.Put root placed looked (other (inl refl)) (inl refl)
+      (shown_promise view b (shown repo (by.Tag tag) m.media m.bytes b) d m old how.Put root placed looked decides.0 (inl refl)
       (shown_is b d m own) copying)
-  told_promise how.Unsure view b after d m old root placed looked other does copying =
+  told_promise override how.Unsure view b after d m old root placed looked decides does copying =
       let P = Promise to o (entry_of turn (Show tag d old how.Unsure) ∷ log) in
       let own : digest_of m.bytes ≡ d = ap (λ (x : Parts). digest_of x.bytes) (sym root.manifest) ∙ root.own in
       let ends = λ (c : Content) (does : MayShow how.Unsure b c (with_manifest b repo d (stored_of m))
       (with_tag (with_manifest b repo d (stored_of m)) repo tag d)).
-      shown_promise view b c d m old how.Unsure root placed looked (other (inr refl)) (inr refl) does copying in
+      shown_promise view b c d m old how.Unsure root placed looked decides.0 (inr refl) does copying in
       elim does [
         | inl is ↦ same_told P (Some b) after is (ends b (inl refl))
         | inr (inl is) ↦ same_told P (Some (manifest_alone repo m.media m.bytes b)) after is
@@ -161,12 +213,12 @@ module _ (to : ℕ → List ℕ) (o : Content) (turn : Turn) (repo tag : List �
         | inr (inr is) ↦ same_told P (Some (shown repo (by.Tag tag) m.media m.bytes b)) after is
             (ends (shown repo (by.Tag tag) m.media m.bytes b) (inr (inr (shown_is b d m own))))
       ]
-  told_promise how.Same view b after d m old root placed looked other does copying =
+  told_promise override how.Same view b after d m old root placed looked decides does copying =
       same_told (Promise to o (entry_of turn (Show tag d old how.Same) ∷ log)) (Some b) after does
-      (same_promise view b d old copying)
-  told_promise how.Kept view b after d m old root placed looked other does copying =
+      (same_promise b d old (root_last view b d m root copying) placed looked decides copying.promise)
+  told_promise override how.Kept view b after d m old root placed looked decides does copying =
       same_told (Promise to o (entry_of turn (Show tag d old how.Kept) ∷ log)) (Some b) after does
-      (kept_promise view b d old copying)
+      (kept_promise b d old (root_last view b d m root copying) placed looked decides.0 copying.promise)
 
   none_promise : (P : Content → Type 0) (came : How) (after : Option Content) (m : Parts)
       → ShowsTold came repo (by.Tag tag) m None after → IfSome after P
@@ -179,29 +231,29 @@ module _ (to : ℕ → List ℕ) (o : Content) (turn : Turn) (repo tag : List �
   none_promise P how.Same after m does = same_told P None after does tt
   none_promise P how.Kept after m does = same_told P None after does tt
 
-  any_promise : (came : How) (view : View) (before after : Option Content) (d : Digest) (m : Parts) (old : Option Digest)
-      → IsRoot view d m → to turn.job.0 ≡ repo → (IsPut came → old ≡ Some d → ⊥)
+  any_promise : (override : Bool) (came : How) (view : View) (before after : Option Content) (d : Digest) (m : Parts) (old : Option Digest)
+      → IsRoot view d m → to turn.job.0 ≡ repo → Decides override d old came
       → ShowsTold came repo (by.Tag tag) m before after
       → IfSome before (λ c. old ≡ head_at c repo (by.Tag tag)) → IfSome before (Copying to o turn repo tag log view)
       → IfSome after (Promise to o (entry_of turn (Show tag d old came) ∷ log))
-  any_promise came view (Some b) after d m old root placed other does looked copying =
-      told_promise came view b after d m old root placed looked other does copying
-  any_promise came view None after d m old root placed other does looked copying =
+  any_promise override came view (Some b) after d m old root placed decides does looked copying =
+      told_promise override came view b after d m old root placed looked decides does copying
+  any_promise override came view None after d m old root placed decides does looked copying =
       none_promise (Promise to o (entry_of turn (Show tag d old came) ∷ log)) came after m does
 
   -- the tag was looked at, and then put or left
-  pub shown_promised : (newer : List Entry) (view : View) (before asked after : Reg) (d : Digest) (m : Parts)
+  pub shown_promised : (override : Bool) (newer : List Entry) (view : View) (before asked after : Reg) (d : Digest) (m : Parts)
       → (old : Option Digest) (came : How) → view.need ≡ need.PutManifest d → IsSound view → view.root ≡ d
       → Some m ≡ newest_manifest view.need view.opened → to turn.job.0 ≡ repo
       → Untouched before asked → IfSome asked.told (λ c. old ≡ head_at c repo (by.Tag tag))
-      → (IsPut came → old ≢ Some d) → ShowsBy came repo (by.Tag tag) m asked after
+      → Decides override d old came → ShowsBy came repo (by.Tag tag) m asked after
       → newer ≡ entry_of turn (Show tag d old came) ∷ log
       → Going to o turn repo tag log view before → Promised to o newer after
-  shown_promised newer view before asked after d m old came needs sound root puts placed kept looked other does is going =
+  shown_promised override newer view before asked after d m old came needs sound root puts placed kept looked decides does is going =
       let calm = kept.quiet going.0 in
       let done = does calm.0 in
       subst (λ (es : List Entry). Promised to o es after) (sym is) (
         done.0,
-        any_promise came view asked.told after.told d m old (is_root view d m needs sound root puts) placed other done.1 looked
+        any_promise override came view asked.told after.told d m old (is_root view d m needs sound root puts) placed decides done.1 looked
             (same_told (Copying to o turn repo tag log view) before.told asked.told calm.1 going.1),
       )

@@ -1,7 +1,7 @@
 -- Entries that were added to a journal: none, one, and more after some.
-use Rattle.std.proofs.Common.{◌≡◌, refl, sym, ap, subst, ◌∙◌, ℕ, ◌+◌, ◌<◌, List, [], ◌∷◌, ◌++◌, length, take, get_or, inl, inr}
+use Rattle.std.proofs.Common.{◌≡◌, sym, ap, subst, ◌∙◌, ℕ, ◌+◌, ◌<◌, List, [], ◌∷◌, ◌++◌, length, take, get_or}
 use Rattle.std.proofs.lemmas.List.{append_assoc, map-append, take_more}
-use Rattle.std.specs.Prelude.{map, Contains, Option, Some, None, Result, Ok, Err, IfErr, OnOk}
+use Rattle.std.specs.Prelude.{map, Contains, Option, Some, Result, Ok, Err, IfErr, OnOk}
 use Rattle.std.specs.List.{AllByRecursion}
 use Rattle.hr_event.specs.declared.entry.Entry.{Entry}
 use Rattle.hr_base.specs.declared.status.Status.{Status}
@@ -9,18 +9,14 @@ use Rattle.hr_base.specs.declared.status.Status.TheVariants.{Error, Success}
 use Rattle.hr_event.specs.declared.cause.Cause.{Cause}
 use Rattle.hr_digest.specs.declared.digest.Digest.{Digest}
 use Rattle.hr_event.specs.declared.entry.How.{How}
-use Rattle.hr_event.specs.declared.entry.How.TheVariants.{Put, Unsure}
+use Rattle.hr_event.specs.declared.entry.How.TheVariants.{Unsure}
 use Rattle.hr_event.specs.declared.entry.What.{What}
-use Rattle.hr_event.specs.declared.entry.What.TheVariants.{Ended, Show}
-use Rattle.hr_event.specs.declared.reference.Reference.{Reference}
-use Rattle.hr_manifest.specs.Manifest.{Parts}
-use Rattle.hr_adapter.specs.Reg.{Reg}
-use Rattle.hr_journal.specs.Promise.{IsPut}
-use Rattle.hr_copy.specs.Calls.{IsDecided, ShowsBy}
+use Rattle.hr_event.specs.declared.entry.What.TheVariants.{Show}
+use Rattle.hr_event.specs.declared.task.TaskSpec.{TaskSpec}
 use Rattle.hr_event.specs.declared.task.Turn.{Turn}
-use Rattle.hr_journal.specs.Still.{PutsNothing, ReadsNoTag}
+use Rattle.hr_journal.specs.Still.{IsStill, ReadsNoTag}
 use Rattle.hr_journal.proofs.LogLemmas.{contains_first, contains_later}
-use Rattle.hr_copy.specs.Outcome.{EndedSo, IsAny, IsFinished, IsSilent, Wrote, entry_of}
+use Rattle.hr_copy.specs.Outcome.{IsFinished, IsSilent, IsStep, Obeys, Wrote, entry_of}
 
 each_after : {X : Type 0} (P : X → Type 0) (xs ys : List X) → AllByRecursion P xs → AllByRecursion P ys
     → AllByRecursion P (xs ++ ys)
@@ -68,11 +64,17 @@ wrote_so {P} {Q} turn older newer f wrote = record {
   each = each_so {P = P} {Q = Q} f wrote.more wrote.each;
 }
 
-pub silent_reads : (what : What) → IsSilent what → ReadsNoTag what
-silent_reads what silent = silent.1
+pub silent_steps : (spec : TaskSpec) (what : What) → IsSilent spec what → IsStep spec what
+silent_steps spec what silent = silent.1
 
-pub silent_puts : (what : What) → IsSilent what → PutsNothing what
-silent_puts what silent = silent.0
+pub silent_puts : (spec : TaskSpec) (what : What) → IsSilent spec what → IsStill what
+silent_puts spec what silent = silent.0
+
+pub step_reads : (spec : TaskSpec) (what : What) → IsStep spec what → ReadsNoTag what
+step_reads spec what step = step.0
+
+pub step_obeys : (spec : TaskSpec) (what : What) → IsStep spec what → Obeys spec what
+step_obeys spec what step = step.1
 
 -- what is in a journal stays there
 contains_more : (more : List Entry) (log : List Entry) (e : Entry) → Contains log e → Contains (more ++ log) e
@@ -113,72 +115,23 @@ finished_now turn older newer tag d old how is sure = record {
   sure = sure;
 }
 
-pub decided_sure : (how : How) → IsDecided how → how ≡ Unsure → ⊥
-decided_sure how decided is = elim decided [ inl same ↦ cc | inr kept ↦ cc ]
-
-decided_put : (how : How) → IsDecided how → IsPut how → ⊥
-decided_put how decided put = elim decided [
-  | inl same ↦ elim put [ inl is ↦ cc | inr is ↦ cc ]
-  | inr kept ↦ elim put [ inl is ↦ cc | inr is ↦ cc ]
-]
-
-pub decided_other : {P : Type 0} (how : How) → IsDecided how → IsPut how → P
-decided_other how decided put = absurd (decided_put how decided put)
-
-pub decided_silent : (how : How) (tag : List ℕ) (d : Digest) (old : Option Digest) → IsDecided how
-    → IsSilent (Show tag d old how)
-decided_silent how tag d old decided = elim decided [
-  | inl same ↦ subst (λ (h : How). IsSilent (Show tag d old h)) (sym same) (tt, tt)
-  | inr kept ↦ subst (λ (h : How). IsSilent (Show tag d old h)) (sym kept) (tt, tt)
-]
-
--- no put was made, and the connection is as it was
-pub decided_shows : (how : How) (repo : List ℕ) (reference : Reference) (parts : Parts) (reg : Reg) → IsDecided how
-    → ShowsBy how repo reference parts reg reg
-decided_shows how repo reference parts reg decided = elim decided [
-  | inl same ↦ subst (λ (h : How). ShowsBy h repo reference parts reg reg) (sym same) (λ calm. (calm, refl))
-  | inr kept ↦ subst (λ (h : How). ShowsBy h repo reference parts reg reg) (sym kept) (λ calm. (calm, refl))
-]
-
-pub put_is_sure : (how : How) → how ≡ Put → how ≡ Unsure → ⊥
-put_is_sure how put unsure = cc
-
 pub wrote_from : {P : What → Type 0} (turn : Turn) (older same newer : List Entry) → same ≡ older
     → Wrote P turn same newer → Wrote P turn older newer
 wrote_from {P} turn older same newer is wrote = subst (λ (es : List Entry). Wrote P turn es newer) is wrote
 
-pub any_what : (P : What → Type 0) (what : What) → P what → IsAny what
-any_what P what holds = tt
-
 -- ---- a task ends
-
-pub ended_so : {T : Type 0} (turn : Turn) (older newer : List Entry) (copied : Result T Cause) (status : Status) (cause : Option Cause)
-    → OnOk copied ((status ≡ Success) × (cause ≡ None)) → IfErr copied (λ why. (status ≡ Error) × (cause ≡ Some why))
-    → newer ≡ entry_of turn (Ended status cause) ∷ older → EndedSo turn status newer
-ended_so turn older newer (Ok x) status cause ok err is =
-    subst (λ (s : Status). EndedSo turn s newer) (sym ok.0)
-    (subst (λ (es : List Entry). Contains es (entry_of turn (Ended Success None)))
-    (sym (is ∙ ap (λ s. entry_of turn (Ended s cause) ∷ older) ok.0 ∙ ap (λ o. entry_of turn (Ended Success o) ∷ older) ok.1))
-    (contains_first (entry_of turn (Ended Success None)) older))
-ended_so turn older newer (Err why) status cause ok err is =
-    subst (λ (s : Status). EndedSo turn s newer) (sym err.0) (
-      why,
-      subst (λ (es : List Entry). Contains es (entry_of turn (Ended Error (Some why))))
-          (sym (is ∙ ap (λ s. entry_of turn (Ended s cause) ∷ older) err.0 ∙ ap (λ o. entry_of turn (Ended Error o) ∷ older) err.1))
-          (contains_first (entry_of turn (Ended Error (Some why))) older),
-    )
 
 pub copied_all : {T P : Type 0} (copied : Result T Cause) (status : Status) (cause : Option Cause) → OnOk copied P
     → IfErr copied (λ why. (status ≡ Error) × (cause ≡ Some why)) → status ≡ Success → P
 copied_all (Ok x) status cause holds err is = holds
 copied_all (Err why) status cause holds err is = let other : Error ≡ Success = sym err.0 ∙ is in cc
 
-pub each_finished_more : (turn : Turn) (older newer : List Entry) (tags : List (List ℕ)) (k : ℕ) (tag : List ℕ) (d : List ℕ)
-    → Wrote IsAny turn older newer → k < length tags → get_or tags k d ≡ tag
+pub each_finished_more : {P : What → Type 0} (turn : Turn) (older newer : List Entry) (tags : List (List ℕ)) (k : ℕ) (tag : List ℕ) (d : List ℕ)
+    → Wrote P turn older newer → k < length tags → get_or tags k d ≡ tag
     → AllByRecursion (IsFinished turn older) (take k tags) → IsFinished turn newer tag
     → AllByRecursion (IsFinished turn newer) (take (k + 1) tags)
-each_finished_more turn older newer tags k tag d wrote within is done now =
+each_finished_more {P} turn older newer tags k tag d wrote within is done now =
     subst (λ (ts : List (List ℕ)). AllByRecursion (IsFinished turn newer) ts) (sym (take_more tags k d within))
     (each_after (IsFinished turn newer) (take k tags) (get_or tags k d ∷ [])
-    (each_finished_on {P = IsAny} turn older newer (take k tags) wrote done)
+    (each_finished_on {P = P} turn older newer (take k tags) wrote done)
     (subst (λ (t : List ℕ). IsFinished turn newer t) (sym is) now, tt))

@@ -1,6 +1,8 @@
 -- What holds in the middle of a copy. (Our own.)
 use Rattle.std.specs.Prelude.{◌≡◌, ◌≢◌, ◌<◌, ℕ, IsTrue, List, [], ◌∷◌, length, Contains, Some, IfSome, option_map}
 use Rattle.std.specs.List.{AllByRecursion}
+use Rattle.hr_digest.specs.Digest.{digest_of}
+use Rattle.hr_digest.specs.declared.digest.Digest.{Digest}
 use Rattle.hr_event.specs.declared.entry.Entry.{Entry}
 use Rattle.hr_event.specs.declared.entry.What.TheVariants.{ReadTag}
 use Rattle.hr_event.specs.declared.reference.Fetched.{Fetched}
@@ -8,6 +10,7 @@ use Rattle.hr_event.specs.declared.reference.Reference.TheVariants as by
 use Rattle.hr_event.specs.declared.task.Turn.{Turn}
 use Rattle.hr_manifest.specs.Manifest.{Parts}
 use Rattle.hr_manifest.specs.Reading.{Reads}
+use Rattle.hr_manifest.specs.declared.child.Child.{Child}
 use Rattle.hr_manifest.specs.declared.child.ChildKind.TheVariants as kind
 use Rattle.hr_graph.specs.Walk.{View, left_of}
 use Rattle.hr_graph.specs.declared.need.Need.TheVariants as need
@@ -39,6 +42,14 @@ WereRead turn tag log (o ∷ p ∷ below) =
 
 abbrev pub IsReadable : Parts → Type 0
 IsReadable parts = Reads parts.media parts.bytes parts.children
+
+-- the manifest that was read last under the tag has this digest, and is readable
+pub record LastRead (turn : Turn) (tag : List ℕ) (log : List Entry) (d : Digest) : Type 0 where
+  pub stored : Fetched
+  pub kids : List Child
+  pub own : digest_of stored.bytes ≡ d
+  pub reads : Reads stored.media stored.bytes kids
+  pub read : last (read_under tag) turn.job.0 turn.rev log ≡ Some stored
 
 -- what holds of the destination, its journal and the walk of the tag that is being copied
 pub record Copying (to : ℕ → List ℕ) (o : Content) (turn : Turn) (repo tag : List ℕ) (log : List Entry) (view : View) (c : Content) : Type 0 where

@@ -5,10 +5,9 @@ ghost use Rattle.hr_digest.specs.Digest.{digest_of};
 ghost use Rattle.hr_event.specs.declared.entry.What.TheVariants.{GotBlob, HasBlob, PutBlob};
 ghost use Rattle.hr_adapter.specs.Content.{Content, blob_at, with_blob};
 ghost use Rattle.hr_adapter.specs.Reg.{Reg};
-ghost use Rattle.hr_journal.specs.Still.{ReadsNoTag};
 ghost use Rattle.hr_copy.specs.Calls.{Changed, MaybeChanged, Untouched};
 ghost use Rattle.hr_copy.specs.Going.{GoesOn, Going, Promised};
-ghost use Rattle.hr_copy.specs.Outcome.{IsSilent, Wrote, entry_of};
+ghost use Rattle.hr_copy.specs.Outcome.{IsSilent, IsStep, Wrote, entry_of};
 
 use crate::Log;
 use crate::cause::{of_fault, of_walk};
@@ -33,7 +32,7 @@ pub(crate) fn find_blob<D: Registry>(
         → Going to o turn.now spec.now.to tag log.old.newest walk.old (D.seen dest.old)
         → Going to o turn.now spec.now.to tag log.new.newest walk.new (D.seen dest.new)) }
     ensures walk { OnOk result (GoesOn walk.old walk.new) }
-    ensures wrote { Wrote IsSilent turn.now log.old.newest log.new.newest }
+    ensures wrote { Wrote (IsSilent spec.now) turn.now log.old.newest log.new.newest }
     ensures dest { Untouched (D.seen dest.old) (D.seen dest.new) }
     ensures room { 1 ≤ log.new.room }
 {
@@ -92,11 +91,12 @@ pub(crate) fn copy_blob<S: Registry, D: Registry>(
         → to turn.now.job.0 ≡ spec.now.to
         → Going to o turn.now spec.now.to tag log.old.newest walk.old (D.seen dest.old)
         → Going to o turn.now spec.now.to tag log.new.newest walk.new (D.seen dest.new)) }
-    ensures promised { OnErr result ((to : ℕ → List ℕ) (o : Content) → to turn.now.job.0 ≡ spec.now.to
+    ensures promised { OnErr result ((to : ℕ → List ℕ) (o : Content)
+        → to turn.now.job.0 ≡ spec.now.to
         → Promised to o log.old.newest (D.seen dest.old)
         → Promised to o log.new.newest (D.seen dest.new)) }
     ensures walk { OnOk result (GoesOn walk.old walk.new) }
-    ensures wrote { Wrote ReadsNoTag turn.now log.old.newest log.new.newest }
+    ensures wrote { Wrote (IsStep spec.now) turn.now log.old.newest log.new.newest }
     ensures source { Untouched (S.seen source.old) (S.seen source.new) }
     ensures room { 1 ≤ log.new.room }
 {

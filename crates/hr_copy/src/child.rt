@@ -5,10 +5,9 @@ ghost use Rattle.hr_digest.specs.Digest.{digest_of};
 ghost use Rattle.hr_event.specs.declared.entry.What.TheVariants.{PutChild, ReadChild};
 ghost use Rattle.hr_adapter.specs.Content.{Content, with_manifest};
 ghost use Rattle.hr_adapter.specs.Reg.{Reg};
-ghost use Rattle.hr_journal.specs.Still.{ReadsNoTag};
 ghost use Rattle.hr_copy.specs.Calls.{Changed, MaybeChanged, Untouched};
 ghost use Rattle.hr_copy.specs.Going.{GoesOn, Going, IsReadable, Promised, stored_of};
-ghost use Rattle.hr_copy.specs.Outcome.{IsSilent, Wrote, entry_of};
+ghost use Rattle.hr_copy.specs.Outcome.{IsSilent, IsStep, Wrote, entry_of};
 
 use crate::Log;
 use crate::cause::{of_fault, of_manifest, of_walk};
@@ -35,7 +34,7 @@ pub(crate) fn take_child<S: Registry>(
         → Going to o turn.now spec.now.to tag log.old.newest walk.old reg
         → Going to o turn.now spec.now.to tag log.new.newest walk.new reg) }
     ensures walk { OnOk result (GoesOn walk.old walk.new) }
-    ensures wrote { Wrote IsSilent turn.now log.old.newest log.new.newest }
+    ensures wrote { Wrote (IsSilent spec.now) turn.now log.old.newest log.new.newest }
     ensures source { Untouched (S.seen source.old) (S.seen source.new) }
     ensures room { 1 ≤ log.new.room }
 {
@@ -61,7 +60,7 @@ fn read_child<S: Registry>(
     ensures readable { IfOk result (λ m. IsReadable m) }
     ensures read { IfOk result (λ m.
         log.new.newest ≡ entry_of turn.now (ReadChild digest m.media m.bytes) ∷ log.old.newest) }
-    ensures wrote { Wrote IsSilent turn.now log.old.newest log.new.newest }
+    ensures wrote { Wrote (IsSilent spec.now) turn.now log.old.newest log.new.newest }
     ensures source { Untouched (S.seen source.old) (S.seen source.new) }
     ensures room { 1 ≤ log.new.room }
 {
@@ -129,7 +128,7 @@ pub(crate) fn put_child<D: Registry>(
         → Going to o turn.now spec.now.to tag log.old.newest walk.old (D.seen dest.old)
         → Promised to o log.new.newest (D.seen dest.new)) }
     ensures walk { OnOk result (GoesOn walk.old walk.new) }
-    ensures wrote { Wrote ReadsNoTag turn.now log.old.newest log.new.newest }
+    ensures wrote { Wrote (IsStep spec.now) turn.now log.old.newest log.new.newest }
     ensures room { 1 ≤ log.new.room }
 {
     walk.is_sound();
@@ -154,7 +153,8 @@ fn put_manifest<D: Registry>(
 ) -> Result<(), Cause>
     requires own { digest_of manifest.now.bytes ≡ digest }
     requires room { 2 ≤ log.old.room }
-    ensures ok { OnOk result (Changed (λ c. with_manifest c spec.now.to digest (stored_of manifest.now))
+    ensures ok { OnOk result
+        (Changed (λ c. with_manifest c spec.now.to digest (stored_of manifest.now))
         (D.seen dest.old) (D.seen dest.new)) }
     ensures err { OnErr result (MaybeChanged
         (λ c. with_manifest c spec.now.to digest (stored_of manifest.now))

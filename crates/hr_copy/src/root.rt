@@ -1,17 +1,17 @@
 //! The manifest of a tag: it is read at the source, and shown at the destination under the tag once
 //! its whole graph is there. (OCI Distribution 1.1, "Pulling manifests" and "Pushing Manifests".)
-ghost use Rattle.std.specs.Prelude.{◌≡◌, ◌≤◌, ◌∷◌, ℕ, List, IfOk, IfSome, OnErr, OnOk, None, Some, ◌≢◌};
+ghost use Rattle.std.specs.Prelude.{◌≡◌, ◌≤◌, ◌∷◌, ◌↔◌, ℕ, List, Contains, IfOk, IfSome, OnErr, OnOk, None, Some, ◌≢◌};
 ghost use Rattle.std.specs.Bool.{OnTrue};
 ghost use Rattle.hr_digest.specs.Digest.{digest_of};
+ghost use Rattle.hr_event.specs.declared.entry.How.{How};
 ghost use Rattle.hr_event.specs.declared.entry.What.TheVariants.{ReadTag};
 ghost use Rattle.hr_event.specs.declared.reference.Reference.TheVariants as by;
 ghost use Rattle.hr_adapter.specs.Content.{Content, fetch_at, head_at};
 ghost use Rattle.hr_adapter.specs.Reg.{IsSound};
-ghost use Rattle.hr_journal.specs.Promise.{IsPut};
-ghost use Rattle.hr_journal.specs.Still.{PutsNothing, ReadsNoTag};
+ghost use Rattle.hr_journal.specs.Still.{IsStill};
 ghost use Rattle.hr_copy.specs.Calls.{IsDecided, ShowsBy, Untouched};
-ghost use Rattle.hr_copy.specs.Going.{Found, Going, IsReadable, Promised, Sourced};
-ghost use Rattle.hr_copy.specs.Outcome.{IsFinished, IsSilent, Wrote, entry_of};
+ghost use Rattle.hr_copy.specs.Going.{Found, Going, IsReadable, LastRead, Promised, Sourced};
+ghost use Rattle.hr_copy.specs.Outcome.{Decides, IsFinished, IsStep, Obeys, Wrote, entry_of};
 
 use crate::Log;
 use crate::cause::{of_fault, of_manifest};
@@ -33,16 +33,20 @@ pub(crate) fn read_root<S: Registry>(
     tag: &Tag,
 ) -> Result<(Digest, Manifest), Cause>
     requires room { 2 ≤ log.old.room }
+    requires within { Contains spec.now.tags tag.now }
     ensures own { IfOk result (λ read. digest_of read.1.bytes ≡ read.0) }
     ensures readable { IfOk result (λ read. IsReadable read.1) }
     ensures read { IfOk result (λ read. log.new.newest
         ≡ entry_of turn.now (ReadTag tag.now read.1.media read.1.bytes) ∷ log.old.newest) }
-    ensures wrote { Wrote PutsNothing turn.now log.old.newest log.new.newest }
+    ensures wrote { Wrote IsStill turn.now log.old.newest log.new.newest }
+    ensures obeys { Wrote (Obeys spec.now) turn.now log.old.newest log.new.newest }
     ensures source { Untouched (S.seen source.old) (S.seen source.new) }
     ensures found { (from : ℕ → List ℕ) → from turn.now.job.0 ≡ spec.now.from
-        → Found from log.old.newest (S.seen source.old) → Found from log.new.newest (S.seen source.new) }
+        → Found from log.old.newest (S.seen source.old)
+        → Found from log.new.newest (S.seen source.new) }
     ensures sourced { (from : ℕ → List ℕ) → from turn.now.job.0 ≡ spec.now.from
-        → Sourced from log.old.newest (S.seen source.old) → Sourced from log.new.newest (S.seen source.new) }
+        → Sourced from log.old.newest (S.seen source.old)
+        → Sourced from log.new.newest (S.seen source.new) }
     ensures room { 1 ≤ log.new.room }
 {
     let kept = copied(alloc, tag)?;
@@ -102,7 +106,7 @@ fn copied(alloc: Global, tag: &Tag) -> Result<Tag, Cause>
 }
 
 /// Looks at what the tag names at the destination before its graph is copied: the answer is whether
-/// this look finishes the tag.
+/// this look finishes the tag. The digest is that of the manifest that was read under the tag.
 pub(crate) fn look<D: Registry>(
     alloc: Global,
     dest: &mut D,
@@ -113,8 +117,14 @@ pub(crate) fn look<D: Registry>(
     digest: Digest,
 ) -> Result<bool, Cause>
     requires room { 3 ≤ log.old.room }
-    ensures finished { IfOk result (λ done. OnTrue done (IsFinished turn.now log.new.newest tag.now)) }
-    ensures wrote { Wrote IsSilent turn.now log.old.newest log.new.newest }
+    requires within { Contains spec.now.tags tag.now }
+    ensures finished { IfOk result
+        (λ done. OnTrue done (IsFinished turn.now log.new.newest tag.now)) }
+    ensures promised { (to : ℕ → List ℕ) (o : Content) → to turn.now.job.0 ≡ spec.now.to
+        → LastRead turn.now tag.now log.old.newest digest
+        → Promised to o log.old.newest (D.seen dest.old)
+        → Promised to o log.new.newest (D.seen dest.new) }
+    ensures wrote { Wrote (IsStep spec.now) turn.now log.old.newest log.new.newest }
     ensures dest { Untouched (D.seen dest.old) (D.seen dest.new) }
     ensures room { 1 ≤ log.new.room }
 {
@@ -159,11 +169,12 @@ pub(crate) fn show<D: Registry>(
     requires asked { walk.now.need ≡ Need.PutManifest digest }
     requires root { walk.now.root ≡ digest }
     requires room { 2 ≤ log.old.room }
+    requires within { Contains spec.now.tags tag.now }
     ensures promised { (to : ℕ → List ℕ) (o : Content) → to turn.now.job.0 ≡ spec.now.to
         → Going to o turn.now spec.now.to tag.now log.old.newest walk.now (D.seen dest.old)
         → Promised to o log.new.newest (D.seen dest.new) }
     ensures finished { OnOk result (IsFinished turn.now log.new.newest tag.now) }
-    ensures wrote { Wrote ReadsNoTag turn.now log.old.newest log.new.newest }
+    ensures wrote { Wrote (IsStep spec.now) turn.now log.old.newest log.new.newest }
     ensures room { 1 ≤ log.new.room }
 {
     walk.is_sound();
@@ -189,8 +200,9 @@ pub(crate) fn show<D: Registry>(
 
 // How a tag is finished without a put, where what it names decides so.
 fn decided(old: Option<Digest>, digest: Digest, override_it: bool) -> Option<How>
-    ensures some { IfSome result (λ how. IsDecided how) }
-    ensures none { result ≡ None → old ≢ Some digest }
+    ensures some { (how : How) → (result ≡ Some how)
+        ↔ (IsDecided how × Decides override_it digest old how) }
+    ensures none { (result ≡ None) ↔ Decides override_it digest old How.Put }
 {
     match old {
         Some(old) if old == digest => Some(How::Same),
@@ -228,8 +240,9 @@ fn settle<D: Registry>(
     digest: Digest,
 ) -> (How, Result<(), Cause>)
     requires tag { (tag : List ℕ) × (reference.now ≡ by.Tag tag) }
-    ensures put { ShowsBy result.0 spec.now.to reference.now manifest.now (D.seen dest.old) (D.seen dest.new) }
-    ensures other { IsPut result.0 → old ≢ Some digest }
+    ensures put { ShowsBy result.0 spec.now.to reference.now manifest.now
+        (D.seen dest.old) (D.seen dest.new) }
+    ensures decides { Decides spec.now.override_it digest old result.0 }
     ensures ok { OnOk result.1 (result.0 ≢ How.Unsure) }
     ensures err { OnErr result.1 (result.0 ≡ How.Unsure) }
 {
@@ -247,7 +260,8 @@ fn put_root<D: Registry>(
     manifest: &Manifest,
 ) -> (How, Result<(), Cause>)
     requires tag { (tag : List ℕ) × (reference.now ≡ by.Tag tag) }
-    ensures put { ShowsBy result.0 spec.now.to reference.now manifest.now (D.seen dest.old) (D.seen dest.new) }
+    ensures put { ShowsBy result.0 spec.now.to reference.now manifest.now
+        (D.seen dest.old) (D.seen dest.new) }
     ensures ok { OnOk result.1 (result.0 ≡ How.Put) }
     ensures err { OnErr result.1 (result.0 ≡ How.Unsure) }
 {

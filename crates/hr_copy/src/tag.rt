@@ -1,14 +1,13 @@
 //! One tag: its manifest is read, all below it is copied, each thing before what lists it, and then
 //! the tag is shown. (Our own.)
-ghost use Rattle.std.specs.Prelude.{◌≡◌, ◌≢◌, ◌≤◌, ℕ, List, OnErr, OnOk, Some};
+ghost use Rattle.std.specs.Prelude.{◌≡◌, ◌≢◌, ◌≤◌, ℕ, List, Contains, OnErr, OnOk, Some};
 ghost use Rattle.std.specs.Bool.{OnTrue, OnFalse};
 ghost use Rattle.hr_digest.specs.Digest.{digest_of};
 ghost use Rattle.hr_adapter.specs.Content.{Content};
 ghost use Rattle.hr_journal.specs.Says.{last, read_under};
-ghost use Rattle.hr_journal.specs.Still.{ReadsNoTag};
 ghost use Rattle.hr_copy.specs.Calls.{Untouched};
 ghost use Rattle.hr_copy.specs.Going.{Found, GoesOn, Going, IsReadable, Promised, Sourced, stored_of};
-ghost use Rattle.hr_copy.specs.Outcome.{IsAny, IsFinished, Wrote};
+ghost use Rattle.hr_copy.specs.Outcome.{IsFinished, IsStep, Obeys, Wrote};
 
 use crate::Log;
 use crate::blob::{copy_blob, find_blob};
@@ -34,15 +33,18 @@ pub(crate) fn copy_tag<S: Registry, D: Registry>(
     tag: &Tag,
 ) -> Result<(), Cause>
     requires room { 1 ≤ log.old.room }
+    requires within { Contains spec.now.tags tag.now }
     ensures finished { OnOk result (IsFinished turn.now log.new.newest tag.now) }
     ensures promised { (to : ℕ → List ℕ) (o : Content) → to turn.now.job.0 ≡ spec.now.to
         → Promised to o log.old.newest (D.seen dest.old)
         → Promised to o log.new.newest (D.seen dest.new) }
     ensures found { (from : ℕ → List ℕ) → from turn.now.job.0 ≡ spec.now.from
-        → Found from log.old.newest (S.seen source.old) → Found from log.new.newest (S.seen source.new) }
+        → Found from log.old.newest (S.seen source.old)
+        → Found from log.new.newest (S.seen source.new) }
     ensures sourced { (from : ℕ → List ℕ) → from turn.now.job.0 ≡ spec.now.from
-        → Sourced from log.old.newest (S.seen source.old) → Sourced from log.new.newest (S.seen source.new) }
-    ensures wrote { Wrote IsAny turn.now log.old.newest log.new.newest }
+        → Sourced from log.old.newest (S.seen source.old)
+        → Sourced from log.new.newest (S.seen source.new) }
+    ensures wrote { Wrote (Obeys spec.now) turn.now log.old.newest log.new.newest }
     ensures source { Untouched (S.seen source.old) (S.seen source.new) }
     ensures room { 1 ≤ log.new.room }
 {
@@ -68,12 +70,14 @@ fn copy_read<S: Registry, D: Registry>(
     requires own { digest_of manifest.bytes ≡ digest }
     requires readable { IsReadable manifest }
     requires room { 1 ≤ log.old.room }
+    requires within { Contains spec.now.tags tag.now }
     ensures finished { OnOk result (IsFinished turn.now log.new.newest tag.now) }
     ensures promised { (to : ℕ → List ℕ) (o : Content) → to turn.now.job.0 ≡ spec.now.to
-        → last (read_under tag.now) turn.now.job.0 turn.now.rev log.old.newest ≡ Some (stored_of manifest)
+        → last (read_under tag.now) turn.now.job.0 turn.now.rev log.old.newest
+        ≡ Some (stored_of manifest)
         → Promised to o log.old.newest (D.seen dest.old)
         → Promised to o log.new.newest (D.seen dest.new) }
-    ensures wrote { Wrote ReadsNoTag turn.now log.old.newest log.new.newest }
+    ensures wrote { Wrote (IsStep spec.now) turn.now log.old.newest log.new.newest }
     ensures source { Untouched (S.seen source.old) (S.seen source.new) }
     ensures room { 1 ≤ log.new.room }
 {
@@ -106,11 +110,12 @@ fn copy_walk<S: Registry, D: Registry>(
     requires root { walk.old.root ≡ root }
     requires undone { walk.old.need ≢ Need.Done }
     requires room { 1 ≤ log.old.room }
+    requires within { Contains spec.now.tags tag.now }
     ensures finished { OnOk result (IsFinished turn.now log.new.newest tag.now) }
     ensures promised { (to : ℕ → List ℕ) (o : Content) → to turn.now.job.0 ≡ spec.now.to
         → Going to o turn.now spec.now.to tag.now log.old.newest walk.old (D.seen dest.old)
         → Promised to o log.new.newest (D.seen dest.new) }
-    ensures wrote { Wrote ReadsNoTag turn.now log.old.newest log.new.newest }
+    ensures wrote { Wrote (IsStep spec.now) turn.now log.old.newest log.new.newest }
     ensures source { Untouched (S.seen source.old) (S.seen source.new) }
     ensures room { 1 ≤ log.new.room }
 {
@@ -141,10 +146,11 @@ fn copy_graph<S: Registry, D: Registry>(
     ensures going { OnOk result ((to : ℕ → List ℕ) (o : Content) → to turn.now.job.0 ≡ spec.now.to
         → Going to o turn.now spec.now.to tag.now log.old.newest walk.old (D.seen dest.old)
         → Going to o turn.now spec.now.to tag.now log.new.newest walk.new (D.seen dest.new)) }
-    ensures promised { OnErr result ((to : ℕ → List ℕ) (o : Content) → to turn.now.job.0 ≡ spec.now.to
+    ensures promised { OnErr result ((to : ℕ → List ℕ) (o : Content)
+        → to turn.now.job.0 ≡ spec.now.to
         → Going to o turn.now spec.now.to tag.now log.old.newest walk.old (D.seen dest.old)
         → Promised to o log.new.newest (D.seen dest.new)) }
-    ensures wrote { Wrote ReadsNoTag turn.now log.old.newest log.new.newest }
+    ensures wrote { Wrote (IsStep spec.now) turn.now log.old.newest log.new.newest }
     ensures source { Untouched (S.seen source.old) (S.seen source.new) }
     ensures room { 1 ≤ log.new.room }
 {
@@ -184,10 +190,11 @@ fn step<S: Registry, D: Registry>(
     ensures going { OnOk result ((to : ℕ → List ℕ) (o : Content) → to turn.now.job.0 ≡ spec.now.to
         → Going to o turn.now spec.now.to tag.now log.old.newest walk.old (D.seen dest.old)
         → Going to o turn.now spec.now.to tag.now log.new.newest walk.new (D.seen dest.new)) }
-    ensures promised { OnErr result ((to : ℕ → List ℕ) (o : Content) → to turn.now.job.0 ≡ spec.now.to
+    ensures promised { OnErr result ((to : ℕ → List ℕ) (o : Content)
+        → to turn.now.job.0 ≡ spec.now.to
         → Going to o turn.now spec.now.to tag.now log.old.newest walk.old (D.seen dest.old)
         → Promised to o log.new.newest (D.seen dest.new)) }
-    ensures wrote { Wrote ReadsNoTag turn.now log.old.newest log.new.newest }
+    ensures wrote { Wrote (IsStep spec.now) turn.now log.old.newest log.new.newest }
     ensures source { Untouched (S.seen source.old) (S.seen source.new) }
     ensures room { 1 ≤ log.new.room }
 {
@@ -215,10 +222,11 @@ fn act<S: Registry, D: Registry>(
     ensures going { OnOk result ((to : ℕ → List ℕ) (o : Content) → to turn.now.job.0 ≡ spec.now.to
         → Going to o turn.now spec.now.to tag.now log.old.newest walk.old (D.seen dest.old)
         → Going to o turn.now spec.now.to tag.now log.new.newest walk.new (D.seen dest.new)) }
-    ensures promised { OnErr result ((to : ℕ → List ℕ) (o : Content) → to turn.now.job.0 ≡ spec.now.to
+    ensures promised { OnErr result ((to : ℕ → List ℕ) (o : Content)
+        → to turn.now.job.0 ≡ spec.now.to
         → Going to o turn.now spec.now.to tag.now log.old.newest walk.old (D.seen dest.old)
         → Promised to o log.new.newest (D.seen dest.new)) }
-    ensures wrote { Wrote ReadsNoTag turn.now log.old.newest log.new.newest }
+    ensures wrote { Wrote (IsStep spec.now) turn.now log.old.newest log.new.newest }
     ensures source { Untouched (S.seen source.old) (S.seen source.new) }
     ensures room { 1 ≤ log.new.room }
 {

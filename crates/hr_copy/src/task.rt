@@ -6,7 +6,7 @@ ghost use Rattle.hr_base.specs.declared.status.Status.TheVariants.{Error, Succes
 ghost use Rattle.hr_adapter.specs.Content.{Content};
 ghost use Rattle.hr_copy.specs.Calls.{Untouched};
 ghost use Rattle.hr_copy.specs.Going.{Found, Promised, Sourced};
-ghost use Rattle.hr_copy.specs.Outcome.{EndedSo, IsAny, IsFinished, Wrote};
+ghost use Rattle.hr_copy.specs.Outcome.{EndsBy, IsFinished, Obeys, Ran, Wrote};
 
 use crate::Log;
 use crate::tag::copy_tag;
@@ -29,7 +29,8 @@ pub fn copy_task<S: Registry, D: Registry>(
     turn: &Turn,
     spec: &TaskSpec,
 ) -> Result<Status, Memory>
-    ensures ended { IfOk result (λ status. EndedSo turn.now status log.new.newest) }
+    ensures ran { IfOk result
+        (λ status. Ran spec.now turn.now status log.old.newest log.new.newest) }
     ensures finished { result ≡ Ok Success
         → AllByRecursion (IsFinished turn.now log.new.newest) spec.now.tags }
     ensures memory { OnErr result (log.new.newest ≡ log.old.newest) }
@@ -37,10 +38,11 @@ pub fn copy_task<S: Registry, D: Registry>(
         → Promised to o log.old.newest (D.seen dest.old)
         → Promised to o log.new.newest (D.seen dest.new) }
     ensures found { (from : ℕ → List ℕ) → from turn.now.job.0 ≡ spec.now.from
-        → Found from log.old.newest (S.seen source.old) → Found from log.new.newest (S.seen source.new) }
+        → Found from log.old.newest (S.seen source.old)
+        → Found from log.new.newest (S.seen source.new) }
     ensures sourced { (from : ℕ → List ℕ) → from turn.now.job.0 ≡ spec.now.from
-        → Sourced from log.old.newest (S.seen source.old) → Sourced from log.new.newest (S.seen source.new) }
-    ensures wrote { Wrote IsAny turn.now log.old.newest log.new.newest }
+        → Sourced from log.old.newest (S.seen source.old)
+        → Sourced from log.new.newest (S.seen source.new) }
     ensures source { Untouched (S.seen source.old) (S.seen source.new) }
 {
     log.reserve(2)?;
@@ -63,6 +65,7 @@ pub fn copy_task<S: Registry, D: Registry>(
 fn ended(copied: Result<(), Cause>) -> (Status, Option<Cause>)
     ensures ok { OnOk copied ((result.0 ≡ Success) × (result.1 ≡ None)) }
     ensures err { IfErr copied (λ cause. (result.0 ≡ Error) × (result.1 ≡ Some cause)) }
+    ensures ends { EndsBy result.0 result.1 }
 {
     match copied {
         Ok(()) => (Status::Success, None),
@@ -80,15 +83,18 @@ fn copy_tags<S: Registry, D: Registry>(
     spec: &TaskSpec,
 ) -> Result<(), Cause>
     requires room { 1 ≤ log.old.room }
-    ensures finished { OnOk result (AllByRecursion (IsFinished turn.now log.new.newest) spec.now.tags) }
+    ensures finished { OnOk result
+        (AllByRecursion (IsFinished turn.now log.new.newest) spec.now.tags) }
     ensures promised { (to : ℕ → List ℕ) (o : Content) → to turn.now.job.0 ≡ spec.now.to
         → Promised to o log.old.newest (D.seen dest.old)
         → Promised to o log.new.newest (D.seen dest.new) }
     ensures found { (from : ℕ → List ℕ) → from turn.now.job.0 ≡ spec.now.from
-        → Found from log.old.newest (S.seen source.old) → Found from log.new.newest (S.seen source.new) }
+        → Found from log.old.newest (S.seen source.old)
+        → Found from log.new.newest (S.seen source.new) }
     ensures sourced { (from : ℕ → List ℕ) → from turn.now.job.0 ≡ spec.now.from
-        → Sourced from log.old.newest (S.seen source.old) → Sourced from log.new.newest (S.seen source.new) }
-    ensures wrote { Wrote IsAny turn.now log.old.newest log.new.newest }
+        → Sourced from log.old.newest (S.seen source.old)
+        → Sourced from log.new.newest (S.seen source.new) }
+    ensures wrote { Wrote (Obeys spec.now) turn.now log.old.newest log.new.newest }
     ensures source { Untouched (S.seen source.old) (S.seen source.new) }
     ensures room { 1 ≤ log.new.room }
 {

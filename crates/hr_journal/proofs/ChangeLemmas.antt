@@ -17,7 +17,7 @@ use Rattle.hr_adapter.proofs.ContentLaws.{tag_at-with_blob, tag_at-with_manifest
 use Rattle.hr_journal.specs.OneEach.{Means, Measures}
 use Rattle.hr_journal.specs.Puts.{Does, MaybePut, MayShow, PutsBlob, PutsChild, Shows}
 use Rattle.hr_journal.specs.Says.{read_under, child_read, blob_read}
-use Rattle.hr_journal.specs.Still.{PutsNoTag, PutsNothing}
+use Rattle.hr_journal.specs.Still.{IsStill, PutsNoTag}
 use Rattle.hr_journal.proofs.LogLemmas.{last_is_said, read_under_is, child_read_is, blob_read_is}
 
 pub data Change (o : Content) (log : List Entry) (repo : List ℕ) (b c : Content) : Type 0 where
@@ -98,24 +98,24 @@ does_change o repo job rev (PutBlob d sure) es b c does = blob_changes o repo jo
 does_change o repo job rev (PutChild d sure) es b c does = child_changes o repo job rev d sure es b c does
 does_change o repo job rev (Show tag d old Put) es b c does = show_changes o repo job rev tag d old Put es b c does
 does_change o repo job rev (Show tag d old Unsure) es b c does = show_changes o repo job rev tag d old Unsure es b c does
+does_change o repo job rev (Show tag d old Same) es b c does = Change.same does.same
+does_change o repo job rev (Show tag d old Kept) es b c does = Change.same does.same
 does_change o repo job rev _ es b c does = Change.same does
 
 -- ---- entries that put nothing, or no tag
 
--- an entry that puts nothing leaves the content, and says no more than that
+-- an entry that puts nothing and shows no tag leaves the content, and says no more than that
 pub does_nothing : (repo : List ℕ) (job rev : ℕ) (what : What) (es : List Entry) (b : Content)
-    → PutsNothing what → Does repo job rev what es b b
+    → IsStill what → Does repo job rev what es b b
 does_nothing repo job rev (PutBlob d sure) es b still = absurd still
 does_nothing repo job rev (PutChild d sure) es b still = absurd still
-does_nothing repo job rev (Show tag d old Put) es b still = absurd still
-does_nothing repo job rev (Show tag d old Unsure) es b still = absurd still
+does_nothing repo job rev (Show tag d old how) es b still = absurd still
 does_nothing repo job rev _ es b still = refl
 
-pub nothing_puts_no_tag : (what : What) → PutsNothing what → PutsNoTag what
+pub nothing_puts_no_tag : (what : What) → IsStill what → PutsNoTag what
 nothing_puts_no_tag (PutBlob d sure) still = absurd still
 nothing_puts_no_tag (PutChild d sure) still = absurd still
-nothing_puts_no_tag (Show tag d old Put) still = absurd still
-nothing_puts_no_tag (Show tag d old Unsure) still = absurd still
+nothing_puts_no_tag (Show tag d old how) still = absurd still
 nothing_puts_no_tag _ still = tt
 
 blob_tags : (repo : List ℕ) (job rev : ℕ) (d : Digest) (sure : Bool) (es : List Entry) (b c : Content)
@@ -141,4 +141,6 @@ tags_stay repo job rev (PutBlob d sure) es b c none does q t = blob_tags repo jo
 tags_stay repo job rev (PutChild d sure) es b c none does q t = child_tags repo job rev d sure es b c does q t
 tags_stay repo job rev (Show tag d old Put) es b c none does q t = absurd none
 tags_stay repo job rev (Show tag d old Unsure) es b c none does q t = absurd none
+tags_stay repo job rev (Show tag d old Same) es b c none does q t = ap (λ x. tag_at x q t) does.same
+tags_stay repo job rev (Show tag d old Kept) es b c none does q t = ap (λ x. tag_at x q t) does.same
 tags_stay repo job rev _ es b c none does q t = ap (λ x. tag_at x q t) does

@@ -20,7 +20,7 @@ use Rattle.hr_journal.specs.Grows.{Grows}
 use Rattle.hr_journal.specs.OneEach.{OneEach}
 use Rattle.hr_journal.specs.Promise.{IsPut, WasPut, Promise}
 use Rattle.hr_journal.specs.Puts.{Does, Shows}
-use Rattle.hr_journal.specs.Still.{PutsNoTag, PutsNothing}
+use Rattle.hr_journal.specs.Still.{IsStill, PutsNoTag}
 use Rattle.hr_journal.proofs.ChangeLemmas.{does_nothing, may_show, nothing_puts_no_tag, tags_stay}
 use Rattle.hr_journal.proofs.ClosedLemmas.{closed_grow, each_then, stands_closed_grow, stands_under}
 use Rattle.hr_journal.proofs.GrowsLemmas.{does_grow}
@@ -98,7 +98,7 @@ promise_on to o e es b c promise does none = record {
 }
 
 pub promise_still : (to : ℕ → List ℕ) (o : Content) (more es : List Entry) (b : Content)
-    → Promise to o es b → AllByRecursion (λ e. PutsNothing e.what) more → Promise to o (more ++ es) b
+    → Promise to o es b → AllByRecursion (λ e. IsStill e.what) more → Promise to o (more ++ es) b
 promise_still to o [] es b promise still = promise
 promise_still to o (e ∷ more) es b promise still =
     promise_on to o e (more ++ es) b b (promise_still to o more es b promise still.1)

@@ -1,6 +1,6 @@
--- Where the manifests came from that tags were put to name.
+-- Where the manifests came from that tags were put to name, or were left for.
 use Rattle.std.proofs.Common.{◌≡◌, inl, inr, refl, sym, ap, subst, ◌∙◌, ℕ, Bool, true, false, ◌&&◌, List, [], ◌∷◌, ◌++◌, length, take, drop, take-append-drop, eqb-true, arith}
-use Rattle.std.specs.Prelude.{⊤, Option, Some, Contains}
+use Rattle.std.specs.Prelude.{◌≢◌, ⊤, Option, Some, Contains}
 use Rattle.std.proofs.lemmas.Option.{MatchOption-at_some}
 use Rattle.std.proofs.lemmas.List.Elements.{Contains-append_left, Contains-append_right}
 use Rattle.hr_digest.specs.declared.digest.Digest.{Digest}
@@ -10,12 +10,16 @@ use Rattle.hr_event.specs.declared.entry.How.TheVariants.{Put, Unsure, Same, Kep
 use Rattle.hr_event.specs.declared.entry.What.{What}
 use Rattle.hr_event.specs.declared.entry.What.TheVariants.{ReadTag, Show}
 use Rattle.hr_digest.specs.Digest.{digest_of}
-use Rattle.hr_adapter.specs.Content.{Content, tag_at}
+use Rattle.hr_event.specs.declared.reference.Fetched.{Fetched}
+use Rattle.hr_manifest.specs.Reading.{Reads}
+use Rattle.hr_manifest.specs.declared.child.Child.{Child}
+use Rattle.hr_event.specs.declared.reference.Reference.TheVariants as by
+use Rattle.hr_adapter.specs.Content.{Content, head_at, tag_at}
 use Rattle.hr_adapter.specs.Reg.{Row}
 use Rattle.hr_journal.specs.OneEach.{OneEach}
-use Rattle.hr_journal.specs.Promise.{AreRead, IsPut, Promise, WasPut}
-use Rattle.hr_journal.specs.Puts.{Does, Puts, Shows}
-use Rattle.hr_journal.specs.Says.{read_under}
+use Rattle.hr_journal.specs.Promise.{AreRead, Promise, WasPut}
+use Rattle.hr_journal.specs.Puts.{Does, Puts}
+use Rattle.hr_journal.specs.Says.{last, read_under}
 use Rattle.hr_journal.specs.Shown.{IsComplete, WasRead}
 use Rattle.hr_journal.specs.Still.{ReadsNoTag}
 use Rattle.hr_journal.proofs.LogLemmas.{contains_cases, contains_later, last_is_said, read_under_is}
@@ -65,44 +69,49 @@ read_more from ever more log grew read e tag media bytes logged says =
     (Contains-append_left (take (length ever) more) (drop (length ever) more) row
     (subst (λ (xs : List Row). Contains xs row) (sym grew) (read e tag media bytes logged says)))
 
--- ---- each tag that was put names a manifest that was read
+-- ---- each tag was put, or left, for a manifest that was read
 
 both_true : (a b : Bool) → a && b ≡ true → (a ≡ true) × (b ≡ true)
 both_true true b is = (refl, is)
 both_true false b is = cc
 
-shows_read : (repo : List ℕ) (e : Entry) (tag : List ℕ) (d : Digest) (old : Option Digest) (how : How) (es : List Entry) (b c : Content)
-    → Shows repo e.job.0 e.rev tag d old how es b c → WasRead es e tag d
-shows_read repo e tag d old how es b c shows =
-    let said = last_is_said (read_under tag) e.job.0 e.rev es shows.stored shows.read in
+last_was_read : (e : Entry) (tag : List ℕ) (d : Digest) (es : List Entry) (stored : Fetched) (kids : List Child)
+    → digest_of stored.bytes ≡ d → Reads stored.media stored.bytes kids
+    → last (read_under tag) e.job.0 e.rev es ≡ Some stored → WasRead es e tag d
+last_was_read e tag d es stored kids own reads read =
+    let said = last_is_said (read_under tag) e.job.0 e.rev es stored read in
     let ours : (_ ≡ true) × (_ ≡ true) = both_true _ _ said.ours in record {
       entry = said.entry;
-      media = shows.stored.media;
-      bytes = shows.stored.bytes;
-      kids = shows.kids;
+      media = stored.media;
+      bytes = stored.bytes;
+      kids = kids;
       logged = said.logged;
       job = eqb-true said.entry.job.0 e.job.0 ours.0;
       rev = eqb-true said.entry.rev e.rev ours.1;
-      says = read_under_is tag said.entry.what shows.stored said.says;
-      own = shows.own;
-      reads = shows.reads;
+      says = read_under_is tag said.entry.what stored said.says;
+      own = own;
+      reads = reads;
     }
 
 does_read : (repo : List ℕ) (e : Entry) (tag : List ℕ) (d : Digest) (old : Option Digest) (how : How) (es : List Entry) (b c : Content)
-    → IsPut how → Does repo e.job.0 e.rev (Show tag d old how) es b c → WasRead es e tag d
-does_read repo e tag d old Put es b c put does = shows_read repo e tag d old Put es b c does
-does_read repo e tag d old Unsure es b c put does = shows_read repo e tag d old Unsure es b c does
-does_read repo e tag d old Same es b c put does = elim put [ inl is ↦ cc | inr is ↦ cc ]
-does_read repo e tag d old Kept es b c put does = elim put [ inl is ↦ cc | inr is ↦ cc ]
+    → Does repo e.job.0 e.rev (Show tag d old how) es b c → WasRead es e tag d
+does_read repo e tag d old Put es b c does =
+    last_was_read e tag d es does.stored does.kids does.own does.reads does.read
+does_read repo e tag d old Unsure es b c does =
+    last_was_read e tag d es does.stored does.kids does.own does.reads does.read
+does_read repo e tag d old Same es b c does =
+    last_was_read e tag d es does.stored does.kids does.own does.reads does.read
+does_read repo e tag d old Kept es b c does =
+    last_was_read e tag d es does.stored does.kids does.own does.reads does.read
 
-pub put_was_read : (to : ℕ → List ℕ) (o : Content) (newer older : List Entry) (e : Entry) (c : Content)
+pub tag_was_read : (to : ℕ → List ℕ) (o : Content) (newer older : List Entry) (e : Entry) (c : Content)
     → (tag : List ℕ) (d : Digest) (old : Option Digest) (how : How) → Puts to o (newer ++ e ∷ older) c
-    → e.what ≡ Show tag d old how → IsPut how → WasRead older e tag d
-put_was_read to o [] older e c tag d old how puts says put =
-    does_read (to e.job.0) e tag d old how older puts.0 c put
+    → e.what ≡ Show tag d old how → WasRead older e tag d
+tag_was_read to o [] older e c tag d old how puts says =
+    does_read (to e.job.0) e tag d old how older puts.0 c
     (subst (λ (w : What). Does (to e.job.0) e.job.0 e.rev w older puts.0 c) says puts.2)
-put_was_read to o (f ∷ newer) older e c tag d old how puts says put =
-    put_was_read to o newer older e puts.0 tag d old how puts.1 says put
+tag_was_read to o (f ∷ newer) older e c tag d old how puts says =
+    tag_was_read to o newer older e puts.0 tag d old how puts.1 says
 
 -- and the source showed it there
 pub read_was_shown : (from : ℕ → List ℕ) (ever : List Row) (newer older : List Entry) (e : Entry) (tag : List ℕ) (d : Digest)
@@ -113,6 +122,28 @@ read_was_shown from ever newer older e tag d read was =
     (ap from was.job)
     (read was.entry tag was.media was.bytes
     (Contains-append_right newer (e ∷ older) was.entry (contains_later e older was.entry was.logged)) was.says)
+
+-- ---- a tag that was left named this manifest, or another one
+
+pub same_was_looked_at : (to : ℕ → List ℕ) (o : Content) (newer older : List Entry) (e : Entry) (c : Content)
+    → (tag : List ℕ) (d : Digest) (old : Option Digest) → Puts to o (newer ++ e ∷ older) c
+    → e.what ≡ Show tag d old Same
+    → (b : Content) × Puts to o older b × (head_at b (to e.job.0) (by.Tag tag) ≡ Some d)
+same_was_looked_at to o [] older e c tag d old puts says =
+    let does = subst (λ (w : What). Does (to e.job.0) e.job.0 e.rev w older puts.0 c) says puts.2 in
+    (puts.0, puts.1, sym does.looked ∙ does.left)
+same_was_looked_at to o (f ∷ newer) older e c tag d old puts says =
+    same_was_looked_at to o newer older e puts.0 tag d old puts.1 says
+
+pub kept_was_looked_at : (to : ℕ → List ℕ) (o : Content) (newer older : List Entry) (e : Entry) (c : Content)
+    → (tag : List ℕ) (d : Digest) (old : Option Digest) → Puts to o (newer ++ e ∷ older) c
+    → e.what ≡ Show tag d old Kept
+    → (b : Content) × Puts to o older b × (head_at b (to e.job.0) (by.Tag tag) ≡ old) × (old ≢ Some d)
+kept_was_looked_at to o [] older e c tag d old puts says =
+    let does = subst (λ (w : What). Does (to e.job.0) e.job.0 e.rev w older puts.0 c) says puts.2 in
+    (puts.0, puts.1, sym does.looked, does.left)
+kept_was_looked_at to o (f ∷ newer) older e c tag d old puts says =
+    kept_was_looked_at to o newer older e puts.0 tag d old puts.1 says
 
 -- ---- the promise, read
 

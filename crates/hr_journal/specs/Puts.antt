@@ -56,6 +56,25 @@ pub record Shows (repo : List ℕ) (job rev : ℕ) (tag : List ℕ) (d : Digest)
   pub does : MayShow how b c (with_manifest b repo d stored)
       (with_tag (with_manifest b repo d stored) repo tag d)
 
+-- how a tag is left: it names this digest already; or it does not, and what it names is kept
+abbrev pub IsLeft : How → Digest → Option Digest → Type 0
+IsLeft Put d old = ⊥
+IsLeft Unsure d old = ⊥
+IsLeft Same d old = old ≡ Some d
+IsLeft Kept d old = old ≢ Some d
+
+-- a tag was left as it was: for the manifest that was read last under it, which is readable; the
+-- look just before found what the tag names in the repository
+pub record Stays (repo : List ℕ) (job rev : ℕ) (tag : List ℕ) (d : Digest) (old : Option Digest) (how : How) (older : List Entry) (b c : Content) : Type 0 where
+  pub stored : Fetched
+  pub kids : List Child
+  pub own : digest_of stored.bytes ≡ d
+  pub reads : Reads stored.media stored.bytes kids
+  pub read : last (read_under tag) job rev older ≡ Some stored
+  pub looked : old ≡ head_at b repo (by.Tag tag)
+  pub left : IsLeft how d old
+  pub same : c ≡ b
+
 -- what the last entry of a journal did to the content of its repository at the destination
 abbrev pub Does : List ℕ → ℕ → ℕ → What → List Entry → Content → Content → Type 0
 Does repo job rev Began older b c = c ≡ b
@@ -68,8 +87,8 @@ Does repo job rev (PutBlob d sure) older b c = PutsBlob repo job rev d sure olde
 Does repo job rev (PutChild d sure) older b c = PutsChild repo job rev d sure older b c
 Does repo job rev (Show t d old Put) older b c = Shows repo job rev t d old Put older b c
 Does repo job rev (Show t d old Unsure) older b c = Shows repo job rev t d old Unsure older b c
-Does repo job rev (Show t d old Same) older b c = c ≡ b
-Does repo job rev (Show t d old Kept) older b c = c ≡ b
+Does repo job rev (Show t d old Same) older b c = Stays repo job rev t d old Same older b c
+Does repo job rev (Show t d old Kept) older b c = Stays repo job rev t d old Kept older b c
 Does repo job rev (Ended status cause) older b c = c ≡ b
 Does repo job rev Dropped older b c = c ≡ b
 

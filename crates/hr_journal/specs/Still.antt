@@ -1,4 +1,4 @@
--- Which entries of a journal put something. (Our own.)
+-- Which entries of a journal put or show something. (Our own.)
 use Rattle.hr_event.specs.declared.entry.How.TheVariants.{Put, Unsure, Same, Kept}
 use Rattle.hr_event.specs.declared.entry.What.{What}
 use Rattle.hr_event.specs.declared.entry.What.TheVariants.{Began, ReadTag, Looked, ReadChild, HasBlob, GotBlob, PutBlob, PutChild, Show, Ended, Dropped}
@@ -20,22 +20,19 @@ PutsNoTag (Show tag d old Kept) = Unit {0}
 PutsNoTag (Ended status cause) = Unit {0}
 PutsNoTag Dropped = Unit {0}
 
--- nothing was put at all
-abbrev pub PutsNothing : What → Type 0
-PutsNothing Began = Unit {0}
-PutsNothing (ReadTag tag media bytes) = Unit {0}
-PutsNothing (Looked tag found) = Unit {0}
-PutsNothing (ReadChild d media bytes) = Unit {0}
-PutsNothing (HasBlob d len) = Unit {0}
-PutsNothing (GotBlob d len) = Unit {0}
-PutsNothing (PutBlob d sure) = ⊥
-PutsNothing (PutChild d sure) = ⊥
-PutsNothing (Show tag d old Put) = ⊥
-PutsNothing (Show tag d old Unsure) = ⊥
-PutsNothing (Show tag d old Same) = Unit {0}
-PutsNothing (Show tag d old Kept) = Unit {0}
-PutsNothing (Ended status cause) = Unit {0}
-PutsNothing Dropped = Unit {0}
+-- nothing was put, and no tag shown in any way
+abbrev pub IsStill : What → Type 0
+IsStill Began = Unit {0}
+IsStill (ReadTag tag media bytes) = Unit {0}
+IsStill (Looked tag found) = Unit {0}
+IsStill (ReadChild d media bytes) = Unit {0}
+IsStill (HasBlob d len) = Unit {0}
+IsStill (GotBlob d len) = Unit {0}
+IsStill (PutBlob d sure) = ⊥
+IsStill (PutChild d sure) = ⊥
+IsStill (Show tag d old how) = ⊥
+IsStill (Ended status cause) = Unit {0}
+IsStill Dropped = Unit {0}
 
 -- no manifest was read under a tag
 abbrev pub ReadsNoTag : What → Type 0

@@ -1,16 +1,18 @@
 //! The laws of the journal of copies: what goes on from entry to entry, and what the promise says
 //! in the end. (Our own.)
-ghost use Rattle.std.specs.Prelude.{◌≡◌, ◌≤◌, ℕ, zero, suc, List, [], ◌∷◌, ◌++◌, length, take, Contains, Option, Some, option_map};
+ghost use Rattle.std.specs.Prelude.{◌≡◌, ◌≢◌, ◌≤◌, ℕ, zero, suc, List, [], ◌∷◌, ◌++◌, length, take, Contains, Option, Some, option_map};
 ghost use Rattle.std.specs.List.{AllByRecursion};
 ghost use Rattle.hr_digest.specs.declared.digest.Digest.{Digest};
 ghost use Rattle.hr_event.specs.declared.reference.Fetched.{Fetched};
 ghost use Rattle.hr_event.specs.declared.entry.Entry.{Entry};
 ghost use Rattle.hr_event.specs.declared.entry.How.{How};
+ghost use Rattle.hr_event.specs.declared.entry.How.TheVariants.{Kept, Same};
 ghost use Rattle.hr_event.specs.declared.entry.What.TheVariants.{ReadTag, Show};
+ghost use Rattle.hr_event.specs.declared.reference.Reference.TheVariants as by;
 ghost use Rattle.hr_manifest.specs.Reading.{Reads};
 ghost use Rattle.hr_manifest.specs.declared.child.Child.{Child};
 ghost use Rattle.hr_manifest.specs.declared.child.ChildKind.{ChildKind};
-ghost use Rattle.hr_adapter.specs.Content.{Content, Honest, blob_at, manifest_at, tag_at};
+ghost use Rattle.hr_adapter.specs.Content.{Content, Honest, blob_at, head_at, manifest_at, tag_at};
 ghost use Rattle.hr_adapter.specs.Reg.{Row};
 ghost use Rattle.hr_journal.specs.Graph.{Closed, Stands, StandsUnder};
 ghost use Rattle.hr_journal.specs.Grows.{Grows};
@@ -18,7 +20,7 @@ ghost use Rattle.hr_journal.specs.OneEach.{Means, Measures, OneEach};
 ghost use Rattle.hr_journal.specs.Promise.{AreRead, IsPut, Promise, WasPut};
 ghost use Rattle.hr_journal.specs.Puts.{Does, Puts, Shows};
 ghost use Rattle.hr_journal.specs.Shown.{AreAlike, IsComplete, WasRead};
-ghost use Rattle.hr_journal.specs.Still.{PutsNoTag, PutsNothing, ReadsNoTag};
+ghost use Rattle.hr_journal.specs.Still.{IsStill, PutsNoTag, ReadsNoTag};
 
 /// A law: the opening or an entry stands for each manifest and each blob that is there.
 pub fn all_is_accounted_for()
@@ -94,13 +96,13 @@ pub fn the_promise_opens()
 {}
 
 /// A law: the promise goes on with an entry that puts no tag, and with any number of entries that
-/// put nothing.
+/// put nothing and show no tag.
 pub fn the_promise_goes_on()
     ensures next { (to : ℕ → List ℕ) (o : Content) (e : Entry) (es : List Entry) (b c : Content)
         → Promise to o es b → Does (to e.job.0) e.job.0 e.rev e.what es b c → PutsNoTag e.what
         → Promise to o (e ∷ es) c }
     ensures still { (to : ℕ → List ℕ) (o : Content) (more es : List Entry) (b : Content)
-        → Promise to o es b → AllByRecursion (λ e. PutsNothing e.what) more
+        → Promise to o es b → AllByRecursion (λ e. IsStill e.what) more
         → Promise to o (more ++ es) b }
 {}
 
@@ -159,14 +161,27 @@ pub fn tags_are_complete()
         → tag_at c repo tag ≡ Some d → WasPut to log repo tag d → IsComplete c repo d }
 {}
 
-/// Where it came from: each tag that was put, or may have been, was put to name a manifest that an
+/// What a tag named where it was left: at that moment the destination showed this manifest under it
+/// where it was the same, and what was found, which is not this manifest, where it is kept.
+pub fn left_tags_were_looked_at()
+    ensures same { (to : ℕ → List ℕ) (o : Content) (newer older : List Entry) (e : Entry)
+        → (c : Content) (tag : List ℕ) (d : Digest) (old : Option Digest)
+        → Puts to o (newer ++ e ∷ older) c → e.what ≡ Show tag d old Same
+        → (b : Content) × Puts to o older b × (head_at b (to e.job.0) (by.Tag tag) ≡ Some d) }
+    ensures kept { (to : ℕ → List ℕ) (o : Content) (newer older : List Entry) (e : Entry)
+        → (c : Content) (tag : List ℕ) (d : Digest) (old : Option Digest)
+        → Puts to o (newer ++ e ∷ older) c → e.what ≡ Show tag d old Kept
+        → (b : Content) × Puts to o older b × (head_at b (to e.job.0) (by.Tag tag) ≡ old)
+        × (old ≢ Some d) }
+{}
+
+/// Where it came from: each tag was put, or may have been, or was left, for a manifest that an
 /// earlier entry of the same revision of the job read under that tag, and that the source showed
 /// there.
 pub fn tags_were_read()
     ensures read { (to : ℕ → List ℕ) (o : Content) (newer older : List Entry) (e : Entry)
         → (c : Content) (tag : List ℕ) (d : Digest) (old : Option Digest) (how : How)
-        → Puts to o (newer ++ e ∷ older) c → e.what ≡ Show tag d old how → IsPut how
-        → WasRead older e tag d }
+        → Puts to o (newer ++ e ∷ older) c → e.what ≡ Show tag d old how → WasRead older e tag d }
     ensures shown { (from : ℕ → List ℕ) (ever : List Row) (newer older : List Entry) (e : Entry)
         → (tag : List ℕ) (d : Digest) → AreRead from ever (newer ++ e ∷ older)
         → (was : WasRead older e tag d) → Contains ever (record {

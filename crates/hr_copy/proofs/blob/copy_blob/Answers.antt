@@ -19,7 +19,7 @@ returns-in-Ok-clause-walk g c =
 pub returns-in-Ok-clause-wrote : goal.returns-in-Ok-clause-wrote
 returns-in-Ok-clause-wrote g c =
     wrote_two c.args.turn.now c.args.log.now.newest c.read_blob.new.log.newest _ _ _
-    c.in_ok-bytes.ensures.ok.1 c.in_ok-put_blob.ensures.wrote tt tt
+    c.in_ok-bytes.ensures.ok.1 c.in_ok-put_blob.ensures.wrote (tt, tt) (tt, tt)
 
 pub returns-then-said-got-clause-promised : goal.returns-then-said-got-clause-promised
 returns-then-said-got-clause-promised g c = λ to o placed.
@@ -28,7 +28,7 @@ returns-then-said-got-clause-promised g c = λ to o placed.
 
 pub returns-then-said-got-clause-wrote : goal.returns-then-said-got-clause-wrote
 returns-then-said-got-clause-wrote g c =
-    wrote_one c.args.turn.now c.args.log.now.newest _ _ c.in_ok-bytes.ensures.ok.1 tt
+    wrote_one c.args.turn.now c.args.log.now.newest _ _ c.in_ok-bytes.ensures.ok.1 (tt, tt)
 
 pub returns-in_err-put_blob-clause-promised : goal.returns-in_err-put_blob-clause-promised
 returns-in_err-put_blob-clause-promised g c = on_err c.from_residual-in_err-put_blob.result (λ to o placed.
@@ -40,7 +40,7 @@ returns-in_err-put_blob-clause-promised g c = on_err c.from_residual-in_err-put_
 pub returns-in_err-put_blob-clause-wrote : goal.returns-in_err-put_blob-clause-wrote
 returns-in_err-put_blob-clause-wrote g c =
     wrote_two c.args.turn.now c.args.log.now.newest c.read_blob.new.log.newest _ _ _
-    c.in_ok-bytes.ensures.ok.1 c.in_err-put_blob.ensures.wrote tt tt
+    c.in_ok-bytes.ensures.ok.1 c.in_err-put_blob.ensures.wrote (tt, tt) (tt, tt)
 
 pub returns-clause-promised : goal.returns-clause-promised
 returns-clause-promised g c = λ to o placed.
@@ -52,4 +52,4 @@ returns-clause-promised g c = λ to o placed.
 pub returns-clause-wrote : goal.returns-clause-wrote
 returns-clause-wrote g c =
     wrote_two c.args.turn.now c.args.log.now.newest c.read_blob.new.log.newest _ _ _
-    c.in_ok-bytes.ensures.ok.1 c.in_ok-put_blob.ensures.wrote tt tt
+    c.in_ok-bytes.ensures.ok.1 c.in_ok-put_blob.ensures.wrote (tt, tt) (tt, tt)

@@ -14,7 +14,7 @@ returns-in-Ok-clause-walk g c =
     found_goes c.args.walk.now c.give.new.self c.args.digest c.in_ok-len.len c.is_sound.ensures c.requires.asked c.in-Ok.ensures.ok
 
 pub returns-in-Ok-clause-wrote : goal.returns-in-Ok-clause-wrote
-returns-in-Ok-clause-wrote g c = wrote_one c.args.turn.now c.args.log.now.newest _ _ c.in_ok-len.ensures.ok (tt, tt)
+returns-in-Ok-clause-wrote g c = wrote_one c.args.turn.now c.args.log.now.newest _ _ c.in_ok-len.ensures.ok (tt, (tt, tt))
 
 pub returns-in-Err-clause-wrote : goal.returns-in-Err-clause-wrote
-returns-in-Err-clause-wrote g c = wrote_one c.args.turn.now c.args.log.now.newest _ _ c.in_ok-len.ensures.ok (tt, tt)
+returns-in-Err-clause-wrote g c = wrote_one c.args.turn.now c.args.log.now.newest _ _ c.in_ok-len.ensures.ok (tt, (tt, tt))

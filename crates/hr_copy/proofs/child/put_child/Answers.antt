@@ -35,15 +35,15 @@ put_manifest-requires-clause-own g c =
 
 pub returns-in_err-put_manifest-clause-wrote : goal.returns-in_err-put_manifest-clause-wrote
 returns-in_err-put_manifest-clause-wrote g c =
-    wrote_one c.args.turn.now c.args.log.now.newest _ _ c.in_err-put_manifest.ensures.wrote tt
+    wrote_one c.args.turn.now c.args.log.now.newest _ _ c.in_err-put_manifest.ensures.wrote (tt, tt)
 
 pub returns-in-Ok-clause-wrote : goal.returns-in-Ok-clause-wrote
 returns-in-Ok-clause-wrote g c =
-    wrote_one c.args.turn.now c.args.log.now.newest _ _ c.in_ok-put_manifest.ensures.wrote tt
+    wrote_one c.args.turn.now c.args.log.now.newest _ _ c.in_ok-put_manifest.ensures.wrote (tt, tt)
 
 pub returns-in-Err-clause-wrote : goal.returns-in-Err-clause-wrote
 returns-in-Err-clause-wrote g c =
-    wrote_one c.args.turn.now c.args.log.now.newest _ _ c.in_ok-put_manifest.ensures.wrote tt
+    wrote_one c.args.turn.now c.args.log.now.newest _ _ c.in_ok-put_manifest.ensures.wrote (tt, tt)
 
 pub returns-in_default-clause-promised : goal.returns-in_default-clause-promised
 returns-in_default-clause-promised g c = λ to o tag placed.

@@ -1,6 +1,7 @@
 use Rattle.std.proofs.Common.{◌∙◌, ap, ◌∷◌, refl}
 use Rattle.hr_event.specs.declared.entry.What.TheVariants.{ReadTag}
 use Rattle.hr_copy.specs.Outcome.{entry_of}
+use Rattle.hr_copy.proofs.DecidesLemmas.{read_obeys}
 use Rattle.hr_copy.proofs.FoundLemmas.{found_on, found_read, sourced_on, sourced_read}
 use Rattle.hr_copy.proofs.WroteLemmas.{wrote_none, wrote_one}
 use Rattle.hr_copy.proofs.root.read_root.Goals as goal
@@ -49,6 +50,18 @@ returns-in-Err-clause-sourced g c = λ from placed.
     c.in_ok-fetched.ensures.source c.in_ok-fetched.ensures.sound c.in_ok-fetched.ensures.told
     (c.write.ensures.written ∙ ap (λ t. entry_of c.args.turn.now (ReadTag t c.in_ok-fetched.fetched.media c.in_ok-fetched.fetched.bytes)
     ∷ c.args.log.now.newest) c.in_ok-kept.ensures)
+
+pub returns-in-Ok-clause-obeys : goal.returns-in-Ok-clause-obeys
+returns-in-Ok-clause-obeys g c =
+    wrote_one c.args.turn.now c.args.log.now.newest _ _ c.write.ensures.written
+    (read_obeys c.args.spec.now c.args.tag.now c.in_ok-kept.kept c.in_ok-fetched.fetched.media c.in_ok-fetched.fetched.bytes
+    c.requires.within c.in_ok-kept.ensures)
+
+pub returns-in-Err-clause-obeys : goal.returns-in-Err-clause-obeys
+returns-in-Err-clause-obeys g c =
+    wrote_one c.args.turn.now c.args.log.now.newest _ _ c.write.ensures.written
+    (read_obeys c.args.spec.now c.args.tag.now c.in_ok-kept.kept c.in_ok-fetched.fetched.media c.in_ok-fetched.fetched.bytes
+    c.requires.within c.in_ok-kept.ensures)
 
 pub returns-in-Err-clause-wrote : goal.returns-in-Err-clause-wrote
 returns-in-Err-clause-wrote g c = wrote_one c.args.turn.now c.args.log.now.newest _ _ c.write.ensures.written tt

@@ -1,10 +1,9 @@
 use Rattle.std.proofs.Common.{◌∙◌, ap, sym}
 use Rattle.hr_graph.specs.declared.need.Need.TheVariants as need
-use Rattle.hr_copy.specs.Outcome.{IsSilent}
-use Rattle.hr_journal.specs.Still.{ReadsNoTag}
+use Rattle.hr_copy.specs.Outcome.{IsSilent, IsStep}
 use Rattle.hr_copy.proofs.CallLemmas.{on_err, on_err_by, on_ok_by, untouched_itself}
 use Rattle.hr_copy.proofs.GoingLemmas.{going_promised, going_silent}
-use Rattle.hr_copy.proofs.WroteLemmas.{silent_reads, wrote_so}
+use Rattle.hr_copy.proofs.WroteLemmas.{silent_steps, wrote_so}
 use Rattle.hr_copy.proofs.tag.act.Goals as goal
 
 pub put_child-requires-clause-below : goal.put_child-requires-clause-below
@@ -19,12 +18,12 @@ returns-in-Manifest-clause-going g c =
 pub returns-in-Manifest-clause-promised : goal.returns-in-Manifest-clause-promised
 returns-in-Manifest-clause-promised g c = on_err c.take_child.result (λ to o placed.
     going_silent to o c.args.turn.now c.args.spec.now.to c.args.tag.now c.args.log.now.newest c.take_child.new.log.newest
-    c.args.walk.now (g.D.Registry.seen c.args.dest.now) (g.D.Registry.seen c.args.dest.now) c.take_child.ensures.wrote
+    c.args.spec.now c.args.walk.now (g.D.Registry.seen c.args.dest.now) (g.D.Registry.seen c.args.dest.now) c.take_child.ensures.wrote
     (untouched_itself (g.D.Registry.seen c.args.dest.now)))
 
 pub returns-in-Manifest-clause-wrote : goal.returns-in-Manifest-clause-wrote
 returns-in-Manifest-clause-wrote g c =
-    wrote_so {P = IsSilent} {Q = ReadsNoTag} c.args.turn.now c.args.log.now.newest c.take_child.new.log.newest silent_reads
+    wrote_so {P = IsSilent c.args.spec.now} {Q = IsStep c.args.spec.now} c.args.turn.now c.args.log.now.newest c.take_child.new.log.newest (silent_steps c.args.spec.now)
     c.take_child.ensures.wrote
 
 pub returns-in-HasBlob-clause-going : goal.returns-in-HasBlob-clause-going
@@ -34,12 +33,12 @@ returns-in-HasBlob-clause-going g c =
 pub returns-in-HasBlob-clause-promised : goal.returns-in-HasBlob-clause-promised
 returns-in-HasBlob-clause-promised g c = on_err c.find_blob.result (λ to o placed.
     going_silent to o c.args.turn.now c.args.spec.now.to c.args.tag.now c.args.log.now.newest c.find_blob.new.log.newest
-    c.args.walk.now (g.D.Registry.seen c.args.dest.now) (g.D.Registry.seen c.find_blob.new.dest) c.find_blob.ensures.wrote
+    c.args.spec.now c.args.walk.now (g.D.Registry.seen c.args.dest.now) (g.D.Registry.seen c.find_blob.new.dest) c.find_blob.ensures.wrote
     c.find_blob.ensures.dest)
 
 pub returns-in-HasBlob-clause-wrote : goal.returns-in-HasBlob-clause-wrote
 returns-in-HasBlob-clause-wrote g c =
-    wrote_so {P = IsSilent} {Q = ReadsNoTag} c.args.turn.now c.args.log.now.newest c.find_blob.new.log.newest silent_reads
+    wrote_so {P = IsSilent c.args.spec.now} {Q = IsStep c.args.spec.now} c.args.turn.now c.args.log.now.newest c.find_blob.new.log.newest (silent_steps c.args.spec.now)
     c.find_blob.ensures.wrote
 
 pub returns-in-HasBlob-clause-source : goal.returns-in-HasBlob-clause-source

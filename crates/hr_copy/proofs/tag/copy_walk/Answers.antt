@@ -1,4 +1,4 @@
-use Rattle.hr_journal.specs.Still.{ReadsNoTag}
+use Rattle.hr_copy.specs.Outcome.{IsStep}
 use Rattle.hr_copy.proofs.GoingLemmas.{going_log, going_promised}
 use Rattle.hr_copy.proofs.WroteLemmas.{wrote_from, wrote_none, wrote_then}
 use Rattle.hr_copy.proofs.tag.copy_walk.Goals as goal
@@ -23,12 +23,12 @@ returns-clause-promised g c = λ to o placed going.
 
 pub returns-then-is_err-clause-wrote : goal.returns-then-is_err-clause-wrote
 returns-then-is_err-clause-wrote g c =
-    wrote_then {P = ReadsNoTag} c.args.turn.now c.args.log.now.newest c.copy_graph.new.log.newest c.reserve.new.self.newest
+    wrote_then {P = IsStep c.args.spec.now} c.args.turn.now c.args.log.now.newest c.copy_graph.new.log.newest c.reserve.new.self.newest
     c.in_ok-copy_graph.ensures.wrote (wrote_none c.args.turn.now c.copy_graph.new.log.newest _ c.reserve.ensures.unchanged)
 
 pub returns-clause-wrote : goal.returns-clause-wrote
 returns-clause-wrote g c =
-    wrote_then {P = ReadsNoTag} c.args.turn.now c.args.log.now.newest c.copy_graph.new.log.newest c.show.new.log.newest
+    wrote_then {P = IsStep c.args.spec.now} c.args.turn.now c.args.log.now.newest c.copy_graph.new.log.newest c.show.new.log.newest
     c.in_ok-copy_graph.ensures.wrote
-    (wrote_from {P = ReadsNoTag} c.args.turn.now c.copy_graph.new.log.newest c.reserve.new.self.newest c.show.new.log.newest
+    (wrote_from {P = IsStep c.args.spec.now} c.args.turn.now c.copy_graph.new.log.newest c.reserve.new.self.newest c.show.new.log.newest
     c.reserve.ensures.unchanged c.show.ensures.wrote)

@@ -4,7 +4,7 @@ use Rattle.std.specs.List.{AllByRecursion}
 use Rattle.hr_adapter.specs.Content.{Content}
 use Rattle.hr_copy.specs.Calls.{Untouched}
 use Rattle.hr_copy.specs.Going.{Found, Promised, Sourced}
-use Rattle.hr_copy.specs.Outcome.{IsAny, IsFinished, Wrote}
+use Rattle.hr_copy.specs.Outcome.{IsFinished, Obeys, Wrote}
 use Rattle.hr_copy.proofs.task.copy_tags.Given as goal
 
 abbrev pub invariant-loop-tag : goal.invariant-loop-tag
@@ -19,7 +19,7 @@ invariant-loop-tag g l = record {
   sourced : (from : ℕ → List ℕ) → from l.turn.job.0 ≡ l.spec.from
       → Sourced from l.fn.log.newest (g.S.Registry.seen l.fn.source)
       → Sourced from l.log.newest (g.S.Registry.seen l.source);
-  wrote : Wrote IsAny l.turn l.fn.log.newest l.log.newest;
+  wrote : Wrote (Obeys l.spec) l.turn l.fn.log.newest l.log.newest;
   source : Untouched (g.S.Registry.seen l.fn.source) (g.S.Registry.seen l.source);
   room : 1 ≤ l.log.room;
 }
