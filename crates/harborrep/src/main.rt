@@ -2,7 +2,7 @@
 //! with the status that comes back.
 #![tactic(auto)]
 
-use hr_base::Bytes;
+use hr_base::{Bytes, List};
 use hr_cause::{StdSink, StdSource};
 use hr_top::{Ending, top};
 use std::process::ExitCode;
@@ -23,9 +23,8 @@ fn main(rt: HostRuntime) -> ExitCode {
     let mut input = StdSource::new(rt.stdin());
     let mut output = StdSink::new(rt.stdout());
     let mut kept = Ending {
-        source: None,
-        copied: None,
-        read: None,
+        regs: List::new(alloc),
+        journal: List::new(alloc),
     };
     ExitCode::from(top(alloc, &words, &mut input, &mut output, &mut kept))
 }

@@ -3,12 +3,24 @@
 #![tactic(auto)]
 
 #[cfg(test)]
-mod content;
+mod contents;
 #[cfg(test)]
 mod devices;
+#[cfg(test)]
+mod executions;
+#[cfg(test)]
+mod graphs;
+#[cfg(test)]
+mod journal;
 #[cfg(test)]
 mod run;
 #[cfg(test)]
 mod scripts;
+#[cfg(test)]
+mod steps;
+#[cfg(test)]
+mod tags;
+#[cfg(test)]
+mod tasks;
 #[cfg(test)]
 mod texts;

@@ -1,9 +1,15 @@
 //! One call of `top` over devices in memory.
 
-use hr_base::{Bytes, List, Memory};
+use hr_base::{Bytes, List, Memory, RegNo};
 use hr_cause::{MemSink, MemSource};
+use hr_memreg::Content;
 use hr_top::{Ending, top};
 use std::alloc::Global;
+use std::process::Abort;
+use std::test::Fail;
+
+/// A script, the status, and the text.
+pub type Case = (&'static [u8], u8, &'static [u8]);
 
 /// What a call gave.
 #[derive(Drop)]
@@ -60,9 +66,8 @@ fn top_of(
     sink: &mut MemSink,
 ) -> (u8, Ending) {
     let mut kept = Ending {
-        source: None,
-        copied: None,
-        read: None,
+        regs: List::new(alloc),
+        journal: List::new(alloc),
     };
     let status = top(alloc, words, source, sink, &mut kept);
     (status, kept)
@@ -89,4 +94,23 @@ pub fn call(
 /// Replays a script over devices that never fail.
 pub fn replay(alloc: Global, script: &[u8]) -> Result<Outcome, Memory> {
     call(alloc, &[b"replay".as_slice()], script, &calm())
+}
+
+/// Asserts that a script gives this status and this text.
+pub fn expect(rt: &impl Abort, alloc: Global, case: Case) -> Result<(), Memory> {
+    let (script, status, text) = case;
+    let got = replay(alloc, script)?;
+    assert_eq!(rt; got.status, status, "{script:?}");
+    assert_eq!(rt; got.sent.view(), text, "{script:?}");
+    Ok(())
+}
+
+/// What the registry with this number, from 1, holds.
+pub fn content_in(alloc: Global, kept: &Ending, number: u8) -> Result<Content, Fail> {
+    for held in kept.regs.view() {
+        if held.reg == RegNo(number) {
+            return Ok(held.held.content(alloc)?);
+        }
+    }
+    Err("there is no such registry".into())
 }

@@ -1,14 +1,11 @@
-//! Scripts, each with the status and the text that it must give.
+//! Scripts, each with the status and the text that it must give. The digests are those that
+//! Python's `hashlib` gives of the manifests, written by hand in the canonical form.
 
-use crate::run::replay;
+use crate::run::{Case, expect, replay};
 use crate::texts::{hello, hello_text};
 use hr_base::Memory;
 use std::alloc::Global;
 use std::test::Fail;
-
-/// A script, the status, and the text. The digests are those that Python's hashlib gives of the
-/// manifests, written by hand.
-type Case = (&'static [u8], u8, &'static [u8]);
 
 // Scripts that are run, of images without layers, with one layer, and with three of which two are
 // equal.
@@ -64,81 +61,64 @@ fn scripts_with_comments() -> [Case; 4] {
     ]
 }
 
-// Scripts with a line out of place, and the number of that line.
-fn lines_out_of_place() -> [(&'static [u8], u32); 9] {
+// Scripts with a bad line, and what is said of the first.
+fn bad_scripts() -> [(&'static [u8], &'static [u8]); 29] {
     [
-        (b"\ntrigger 1\n", 2),
-        (b"image 1 a v 01\nimage 1 a v 01\n", 2),
-        (b"trigger 1\n", 1),
-        (b"finish\n", 1),
-        (b"tags 2\n", 1),
-        (b"image 1 a v\nfinish\n", 2),
-        (b"image 1 a v\ntrigger 1\ntrigger 1\n", 3),
-        (b"image 1 a v\ntrigger 1\nfinish\ntags 2\ntags 2\n", 5),
-        (b"image 1 a v\ntrigger 1\nfinish\ntags 2\n \n", 5),
+        (b"images 1 a v\n", b"line 1 word\n"),
+        (b" image 1 a v\n", b"line 1 word\n"),
+        (b"trigger 1\r\nimage 1 a v\n", b"line 1 number\n"),
+        (b"finish\r\n", b"line 1 word\n"),
+        (b"\ntrigger 1\nimage 1 a v\n", b"line 3 order\n"),
+        (b"image 1 a\n", b"line 1 count\n"),
+        (b"image 1 a v \n", b"line 1 hex\n"),
+        (b"image 1  a v\n", b"line 1 name\n"),
+        (b"trigger\n", b"line 1 count\n"),
+        (b"finish 1\n", b"line 1 count\n"),
+        (b"image 9 a v\n", b"line 1 number\n"),
+        (b"image 0 a v\n", b"line 1 number\n"),
+        (b"trigger 4294967296\n", b"line 1 number\n"),
+        (b"trigger 01\n", b"line 1 number\n"),
+        (b"image 1 library/Hello v1 7b7d\n", b"line 1 name\n"),
+        (b"image 1 a//b v\n", b"line 1 name\n"),
+        (b"image 1 a -v\n", b"line 1 tag\n"),
+        (b"image 1 a v 7b7\n", b"line 1 hex\n"),
+        (b"image 1 a v 7B\n", b"line 1 hex\n"),
+        (b"manifest 1 a v m\"m text\n", b"line 1 policy\n"),
+        (b"image 1 a v\nindex 1 a all v w\n", b"line 2 reference\n"),
+        (b"index 1 a all v\nimages\n", b"line 1 reference\n"),
+        (b"image 2 a v\nindex 1 a all v\n", b"line 2 reference\n"),
+        (b"images\nindex 1 a all v\n", b"line 1 word\n"),
+        (b"finish\nimage 1 app a 01\n", b"line 2 order\n"),
+        (b"finish now\n", b"line 1 count\n"),
+        (b"tags 9\n", b"line 1 number\n"),
+        (b"step 1\n", b"line 1 not yet\n"),
+        (b"lanes 2\n", b"line 1 not yet\n"),
     ]
 }
 
-// Scripts with a line out of form, and the number of that line.
-fn lines_out_of_form() -> [(&'static [u8], u32); 20] {
-    [
-        (b"trigger 2\n", 1),
-        (b"image 1 a v\ntrigger 1\r\n", 2),
-        (b"image 1 a v\ntrigger 1 \n", 2),
-        (b"image 1 a v\nTrigger 1\n", 2),
-        (b"image 2 a v\n", 1),
-        (b"image 1 a\n", 1),
-        (b"image 1 a \n", 1),
-        (b"image 1 a v \n", 1),
-        (b"image 1  a v\n", 1),
-        (b" image 1 a v\n", 1),
-        (b"image 1 library/Hello v1 7b7d\n", 1),
-        (b"image 1 a//b v\n", 1),
-        (b"image 1 /a v\n", 1),
-        (b"image 1 a/ v\n", 1),
-        (b"image 1 a\0 v\n", 1),
-        (b"image 1 a v.1\n", 1),
-        (b"image 1 a v 7b7\n", 1),
-        (b"image 1 a v 7B\n", 1),
-        (b"image 1 a v 7g\n", 1),
-        (b"image 1 a v 7b\xff\n", 1),
-    ]
-}
-
-// Whether a script gives this status and this text.
-fn gives(alloc: Global, case: Case) -> Result<bool, Memory> {
-    let (script, status, text) = case;
+// Whether a script is refused with this text, and nothing is kept.
+fn is_refused(alloc: Global, script: &[u8], text: &[u8]) -> Result<bool, Memory> {
     let got = replay(alloc, script)?;
-    Ok(got.status == status && got.sent.view() == text)
-}
-
-// Whether a script is refused at this line.
-fn is_refused_at(alloc: Global, script: &[u8], line: u32) -> Result<bool, Memory> {
-    let got = replay(alloc, script)?;
-    let text = format!(in alloc; "line {line} not yet\n")?;
-    Ok(got.status == 2 && got.sent.view() == text.as_bytes() && got.kept.source.is_none())
+    Ok(got.status == 2 && got.sent.view() == text && got.kept.regs.view().is_empty())
 }
 
 #[test]
 fn a_script_gives_its_status_and_its_text(rt: HostRuntime) -> Result<(), Fail> {
     let alloc = rt.alloc();
     for case in scripts_of_images() {
-        assert!(rt; gives(alloc, case)?, "{case:?}");
+        expect(&rt, alloc, case)?;
     }
     for case in scripts_with_comments() {
-        assert!(rt; gives(alloc, case)?, "{case:?}");
+        expect(&rt, alloc, case)?;
     }
     Ok(())
 }
 
 #[test]
-fn the_first_line_that_ends_no_script_is_refused(rt: HostRuntime) -> Result<(), Fail> {
+fn the_first_bad_line_is_refused(rt: HostRuntime) -> Result<(), Fail> {
     let alloc = rt.alloc();
-    for (script, line) in lines_out_of_place() {
-        assert!(rt; is_refused_at(alloc, script, line)?, "{script:?}");
-    }
-    for (script, line) in lines_out_of_form() {
-        assert!(rt; is_refused_at(alloc, script, line)?, "{script:?}");
+    for (script, text) in bad_scripts() {
+        assert!(rt; is_refused(alloc, script, text)?, "{script:?}");
     }
     Ok(())
 }

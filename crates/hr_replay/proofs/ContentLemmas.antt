@@ -1,7 +1,7 @@
 -- The contents that setup lines make are honest, and what they store can be listed by an index.
-use Rattle.std.proofs.Common.{◌≡◌, ◌≢◌, ◌<◌, ◌≤◌, ◌-◌, ◌+◌, ℕ, zero, suc, Bool, true, false, List, [], ◌∷◌, length, codes, Option, Some, None, option_map, IfSome, IsSome, slice_get, slice_set, Result, Ok, Err, inl, inr, refl, sym, ap, subst, ◌∙◌, arith}
-use Rattle.std.specs.Option.{option_and_then, unwrap_or}
-use Rattle.std.specs.List.{AllByRecursion, AllPass}
+use Rattle.std.proofs.Common.{◌≡◌, ◌-◌, ℕ, zero, suc, List, [], ◌∷◌, Option, Some, None, option_map, IfSome, IsSome, slice_get, slice_set, Result, Ok, Err, inl, inr, refl, sym, subst}
+use Rattle.std.specs.Option.{unwrap_or}
+use Rattle.std.specs.List.{AllByRecursion}
 use Rattle.std.proofs.lemmas.List.Sums.{AllPass-from_list_all}
 use Rattle.hr_digest.specs.Digest.{digest_of}
 use Rattle.hr_digest.specs.declared.digest.Digest.{Digest}
@@ -9,14 +9,14 @@ use Rattle.hr_event.specs.declared.reference.Fetched.{Fetched}
 use Rattle.hr_manifest.specs.Canonical.{image_media, image_text, index_media, index_text}
 use Rattle.hr_manifest.specs.Writable.{IsPlain, is_unescaped}
 use Rattle.hr_manifest.specs.declared.child.Child.{Child}
-use Rattle.hr_adapter.specs.Content.{Content, Honest, blob_at, manifest_at, named_at, repo_at, tag_at, with_blob, with_manifest, with_tag}
+use Rattle.hr_adapter.specs.Content.{Content, blob_at, manifest_at, named_at, repo_at, tag_at, with_blob, with_tag}
 use Rattle.hr_adapter.proofs.ContentLaws.{manifest_at-with_blob, manifest_at-with_manifest-cases, manifest_at-with_manifest-same, manifest_at-with_tag}
 use Rattle.hr_adapter.proofs.HonestLaws.{Honest-with_blob, Honest-with_manifest, Honest-with_tag}
 use Rattle.hr_script.specs.declared.line.Line.{Line}
 use Rattle.hr_script.specs.declared.line.Line.TheVariants as line
 use Rattle.hr_script.specs.declared.reading.Numbered.{Numbered}
 use Rattle.hr_replay.specs.Fit.{ArePlain, IsFit, IsWell}
-use Rattle.hr_replay.specs.Opening.{Contents, after_line, after_lines, child_of, children_of, config_text, content_in, goes_on, no_contents, with_blobs, with_image, with_index, with_registry, with_stored, with_tagged}
+use Rattle.hr_replay.specs.Opening.{Contents, after_line, after_lines, children_of, config_text, content_in, goes_on, no_contents, with_blobs, with_image, with_index, with_registry, with_stored, with_tagged}
 
 -- ---- one content
 

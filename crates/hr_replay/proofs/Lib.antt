@@ -1,4 +1,5 @@
 pub mod ContentLemmas
+pub mod JobLemmas
 pub mod OpeningLemmas
 pub mod PlanLemmas
 pub mod ReadingLemmas

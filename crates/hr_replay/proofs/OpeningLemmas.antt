@@ -1,5 +1,5 @@
 -- The setup lines that were taken, and those that are left.
-use Rattle.std.proofs.Common.{◌≡◌, ◌+◌, ℕ, zero, suc, List, [], ◌∷◌, ◌++◌, length, map, replicate, take, drop, Option, Some, None, Result, Ok, Err, refl, sym, ap, subst, ◌∙◌, append_assoc, arith}
+use Rattle.std.proofs.Common.{◌≡◌, ◌+◌, ℕ, suc, List, [], ◌∷◌, ◌++◌, length, replicate, take, Some, None, Ok, Err, refl, sym, ap, subst, ◌∙◌, append_assoc, arith}
 use Rattle.std.specs.List.{AllByRecursion}
 use Rattle.std.proofs.lemmas.Grind.{replicate_next}
 use Rattle.std.proofs.lemmas.List.{append-nil, map-append}
@@ -61,7 +61,7 @@ all_taken opens lines regs events left so_far none = (
 pub one_empty : (regs new : List Mem) (i : ℕ) (m : Mem) → contents_of regs ≡ replicate i [] → m.content ≡ [] → new ≡ regs ++ m ∷ [] → contents_of new ≡ replicate (i + 1) []
 one_empty regs new i m so_far none more =
     ap contents_of more ∙ map-append (λ (n : Mem). n.content) regs (m ∷ []) ∙ ap (λ (l : Contents). l ++ m.content ∷ []) so_far
-        ∙ ap (λ (c : Content). replicate i [] ++ c ∷ []) none ∙ sym (replicate_next i [])
+    ∙ ap (λ (c : Content). replicate i [] ++ c ∷ []) none ∙ sym (replicate_next i [])
 
 pub content_count : (regs : List Mem) → length (contents_of regs) ≡ length regs
 content_count [] = refl

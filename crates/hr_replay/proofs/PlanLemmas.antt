@@ -1,5 +1,5 @@
 -- The tasks that are planned, repository by repository.
-use Rattle.std.proofs.Common.{◌≡◌, ◌<◌, ◌≤◌, ◌+◌, ◌&&◌, ℕ, zero, suc, Bool, true, false, nat_le, if◌then◌else◌, List, [], ◌∷◌, ◌++◌, length, get_or, take, flat_map, Option, Some, None, refl, sym, ap, subst, ◌∙◌, arith}
+use Rattle.std.proofs.Common.{◌≡◌, ◌<◌, ◌≤◌, ◌+◌, ◌&&◌, ℕ, zero, suc, Bool, true, false, nat_le, if◌then◌else◌, List, [], ◌∷◌, ◌++◌, length, get_or, take, flat_map, Some, None, refl, sym, ap, subst, ◌∙◌, arith}
 use Rattle.std.specs.List.{list_all}
 use Rattle.std.proofs.lemmas.Bool.Decides.{nat_tests}
 use Rattle.std.proofs.lemmas.Grind.{flat_map-append}
@@ -70,12 +70,12 @@ pub specs_more : (c : Content) (names : List (List ℕ)) (at : ℕ) (name : List
 specs_more c names at name tags specs new so_far within is found made =
     let f : List ℕ → List TaskSpec = λ repo. specs_for repo (tags_of c repo) in
     let step : specs_of c (take (at + 1) names) ≡ specs_of c (take at names) ++ f name =
-        ap (flat_map f) (take_more names at name within ∙ ap (λ (n : List ℕ). take at names ++ n ∷ []) (sym is))
-            ∙ flat_map-append f (take at names) (name ∷ [])
-            ∙ ap (λ (l : List TaskSpec). flat_map f (take at names) ++ l) (append-nil (f name))
+    ap (flat_map f) (take_more names at name within ∙ ap (λ (n : List ℕ). take at names ++ n ∷ []) (sym is))
+    ∙ flat_map-append f (take at names) (name ∷ [])
+    ∙ ap (λ (l : List TaskSpec). flat_map f (take at names) ++ l) (append-nil (f name))
     in
     made ∙ ap (λ (l : List TaskSpec). l ++ specs_for name tags) so_far
-        ∙ ap (λ (ts : List Tagged). specs_of c (take at names) ++ specs_for name ts) found ∙ sym step
+    ∙ ap (λ (ts : List Tagged). specs_of c (take at names) ++ specs_for name ts) found ∙ sym step
 
 pub plan_found : (c : Content) (names : List (List ℕ)) (specs : List TaskSpec) (at : ℕ) → names ≡ repos_of c → length names ≤ 65536 → length names ≤ at
     → specs ≡ specs_of c (take at names) → are_listed c (take at names) ≡ true → Some specs ≡ plan_of c
@@ -84,7 +84,7 @@ plan_found c names specs at is few past made listed =
     let short : is_short (repos_of c) ≡ true = le_true (length (repos_of c)) 65536 (subst (λ (l : List (List ℕ)). length l ≤ 65536) is few) in
     let each : are_listed c (repos_of c) ≡ true = subst (λ (l : List (List ℕ)). are_listed c l ≡ true) all listed in
     ap Some (made ∙ ap (specs_of c) all)
-        ∙ sym (if_both (is_short (repos_of c)) (are_listed c (repos_of c)) (specs_of c (repos_of c)) short each)
+    ∙ sym (if_both (is_short (repos_of c)) (are_listed c (repos_of c)) (specs_of c (repos_of c)) short each)
 
 -- ---- too long
 

@@ -1,30 +1,24 @@
 -- What events make of a state: waiting jobs that were run, and the promise after each event.
-use Rattle.std.proofs.Common.{◌≡◌, ◌≢◌, ◌<◌, ◌≤◌, ◌-◌, ◌+◌, ◌⊎◌, ◌↔◌, IsTrue, ℕ, zero, suc, Bool, List, [], ◌∷◌, ◌++◌, length, map, get_or, take, Contains, Option, Some, None, IfSome, slice_get, slice_set, inl, inr, ⊎_elim, refl, sym, ap, subst, ◌∙◌, append_assoc, length-append, arith}
+use Rattle.std.proofs.Common.{◌≡◌, ◌<◌, ◌≤◌, ◌+◌, ◌↔◌, IsTrue, ℕ, zero, suc, Bool, List, [], ◌∷◌, ◌++◌, length, get_or, take, Option, Some, None, option_map, slice_get, slice_set, ⊎_elim, refl, sym, ap, subst, ◌∙◌, append_assoc, length-append, arith}
 use Rattle.std.specs.Option.{unwrap_or}
 use Rattle.std.specs.List.{AllByRecursion}
-use Rattle.std.proofs.lemmas.Bool.{cases_lt}
 use Rattle.std.proofs.lemmas.List.{append-nil, length-set, take_all, take_more}
 use Rattle.hr_base.specs.declared.status.Status.{Status}
-use Rattle.hr_base.specs.declared.status.Status.TheVariants.{Pending, Scheduled, Running, Stopped, Error, Success}
 use Rattle.hr_event.specs.declared.entry.Entry.{Entry}
-use Rattle.hr_event.specs.declared.entry.What.{What}
-use Rattle.hr_event.specs.declared.entry.What.TheVariants.{ReadTag}
 use Rattle.hr_event.specs.declared.event.Event.{Event}
 use Rattle.hr_event.specs.declared.event.Event.TheVariants as event
 use Rattle.hr_event.specs.declared.task.TaskSpec.{TaskSpec}
-use Rattle.hr_event.specs.declared.task.Turn.{Turn}
 use Rattle.hr_adapter.specs.Content.{Content, Honest}
 use Rattle.hr_copy.specs.Going.{AreFound}
-use Rattle.hr_copy.specs.Outcome.{EndedSo, IsAny, IsFinished, Wrote, entry_of}
 use Rattle.hr_journal.specs.Promise.{Promise}
-use Rattle.hr_journal.proofs.LogLemmas.{contains_later}
+use Rattle.hr_journal.proofs.AgreeLemmas.{promise_alike}
 use Rattle.hr_journal.proofs.PromiseLemmas.{promise_opens}
 use Rattle.hr_replay.specs.Fit.{IsScripted}
 use Rattle.hr_replay.specs.Opening.{Contents, content_in}
 use Rattle.hr_replay.specs.Plan.{job_limit, plan_of}
 use Rattle.hr_replay.specs.Replay.{Holds}
-use Rattle.hr_replay.specs.Run.{AreDone, Does, Finishes, Goes, IsDone, IsOrdered, Places, Ran, Runs, State, Triggers, opening, turn_of}
-use Rattle.hr_replay.specs.Text.{created_text, failed_text, full_text}
+use Rattle.hr_replay.proofs.JobLemmas.{are_final, found_alike, ran_more, ran_then, to_alike}
+use Rattle.hr_replay.specs.Run.{AreDone, Does, Finishes, Goes, IsDone, IsOrdered, RanJob, RanJobs, Runs, State, Triggers, from_of, opening, task_of, to_of}
 
 -- ---- lists
 
@@ -42,59 +36,8 @@ first_stays : (xs : Contents) (c : Content) → content_in (slice_set xs 1 c) 1 
 first_stays [] c = refl
 first_stays (x ∷ xs) c = refl
 
-get_before : {X : Type 0} (xs ys : List X) (i : ℕ) → i < length xs → slice_get (xs ++ ys) i ≡ slice_get xs i
-get_before [] ys i h = absurd (omega arith)
-get_before (x ∷ xs) ys zero h = refl
-get_before (x ∷ xs) ys (suc i) h = get_before xs ys i (omega arith)
-
-get_one : {X : Type 0} (xs : List X) (y : X) (P : X → Type 0) (i : ℕ) → length xs ≤ i → (i ≡ length xs → P y) → IfSome (slice_get (xs ++ y ∷ []) i) P
-get_one [] y P zero h p = p refl
-get_one [] y P (suc i) h p = tt
-get_one (x ∷ xs) y P zero h p = absurd (omega arith)
-get_one (x ∷ xs) y P (suc i) h p = get_one xs y P i (omega arith) (λ e. p (omega arith))
-
-none_past : {X : Type 0} (P : X → Type 0) (xs : List X) (i : ℕ) → length xs ≤ i → IfSome (slice_get xs i) P
-none_past P [] i past = tt
-none_past P (x ∷ xs) zero past = absurd (omega arith)
-none_past P (x ∷ xs) (suc i) past = none_past P xs i (omega arith)
-
-contains_more : {X : Type 0} (more xs : List X) (x : X) → Contains xs x → Contains (more ++ xs) x
-contains_more [] xs x there = there
-contains_more (m ∷ more) xs x there = contains_later m (more ++ xs) x (contains_more more xs x there)
-
-if_some_then : {X : Type 0} (P Q : X → Type 0) (o : Option X) → ((x : X) → P x → Q x) → IfSome o P → IfSome o Q
-if_some_then P Q (Some x) more h = more x h
-if_some_then P Q None more h = tt
-
--- ---- how a job ended stays
-
-ended_later : (turn : Turn) (status : Status) (more log : List Entry) → EndedSo turn status log → EndedSo turn status (more ++ log)
-ended_later turn Pending more log is = absurd is
-ended_later turn Scheduled more log is = absurd is
-ended_later turn Running more log is = absurd is
-ended_later turn Stopped more log is = absurd is
-ended_later turn Error more log is = (is.0, contains_more more log _ is.1)
-ended_later turn Success more log is = contains_more more log _ is
-
-finished_later : (turn : Turn) (more log : List Entry) (tags : List (List ℕ)) → AllByRecursion (IsFinished turn log) tags → AllByRecursion (IsFinished turn (more ++ log)) tags
-finished_later turn more log [] is = tt
-finished_later turn more log (tag ∷ tags) is = (
-  record {
-    digest = is.0.digest;
-    old = is.0.old;
-    how = is.0.how;
-    logged = contains_more more log _ is.0.logged;
-    sure = is.0.sure;
-  },
-  finished_later turn more log tags is.1,
-)
-
-ran_later : (more log later : List Entry) (job : ℕ) (spec : TaskSpec) (status : Status) → later ≡ more ++ log → Ran log job spec status → Ran later job spec status
-ran_later more log later job spec status is ran =
-    subst (λ (l : List Entry). Ran l job spec status) (sym is) (record {
-      ended = ended_later (turn_of job) status more log ran.ended;
-      finished = λ e. finished_later (turn_of job) more log spec.tags (ran.finished e);
-    })
+one_more : (n : ℕ) → n + 1 ≡ suc n
+one_more n = omega arith
 
 -- ---- waiting jobs that were run
 
@@ -106,18 +49,13 @@ goes_nowhere s = record {
   contents = sym (set_second s.contents);
   ended = [];
   joined = sym (append-nil s.ends);
-  ran = λ at past. none_past (λ status. IfSome (slice_get s.tasks at) (λ spec. Ran s.log (at + 1) spec status)) s.ends at past;
-  more = [];
-  logged = refl;
-  promised = λ place o places promise. promise;
-  found = λ place places found. found;
+  ran = refl;
+  promised = λ o promise. promise;
+  found = λ found. found;
 }
 
 source_stays : (a b : State) → Goes a b → content_in b.contents 1 ≡ content_in a.contents 1
 source_stays a b goes = ap (λ (c : Contents). content_in c 1) goes.contents ∙ first_stays a.contents goes.copied
-
-places_along : (place : ℕ → List ℕ) (a b : List TaskSpec) → b ≡ a → Places place a → Places place b
-places_along place a b e places = subst (λ (tasks : List TaskSpec). Places place tasks) (sym e) places
 
 pub goes_on_then : (a b c : State) → Goes a b → Goes b c → Goes a c
 goes_on_then a b c one two = record {
@@ -127,40 +65,26 @@ goes_on_then a b c one two = record {
   contents = two.contents ∙ ap (λ (cs : Contents). slice_set cs 1 two.copied) one.contents ∙ set_twice a.contents 1 one.copied two.copied;
   ended = one.ended ++ two.ended;
   joined = two.joined ∙ ap (λ (ends : List Status). ends ++ two.ended) one.joined ∙ append_assoc a.ends one.ended two.ended;
-  ran = ran;
-  more = two.more ++ one.more;
-  logged = two.logged ∙ ap (λ (log : List Entry). two.more ++ log) one.logged ∙ sym (append_assoc two.more one.more a.log);
-  promised = λ place o places promise. two.promised place o (places_along place a.tasks b.tasks one.tasks places) (one.promised place o places promise);
-  found = λ place places found.
+  ran = ran_then a.tasks (length a.ends) one.ended two.ended a.log b.log c.log one.ran
+      (subst (λ (n : ℕ). RanJobs a.tasks n two.ended b.log c.log) (ap length one.joined ∙ length-append a.ends one.ended)
+      (subst (λ (tasks : List TaskSpec). RanJobs tasks (length b.ends) two.ended b.log c.log) one.tasks two.ran));
+  promised = λ o promise.
+      subst (λ (tasks : List TaskSpec). Promise (to_of tasks) o c.log (content_in c.contents 2)) one.tasks
+      (two.promised o (subst (λ (tasks : List TaskSpec). Promise (to_of tasks) o b.log (content_in b.contents 2)) (sym one.tasks) (one.promised o promise)));
+  found = λ found.
       let source = source_stays a b one in
-      subst (λ (s : Content). AreFound place s c.log) source
-      (two.found place (places_along place a.tasks b.tasks one.tasks places)
-      (subst (λ (s : Content). AreFound place s b.log) (sym source) (one.found place places found)));
+      subst (λ (s : Content). AreFound (from_of a.tasks) s c.log) source
+      (subst (λ (tasks : List TaskSpec). AreFound (from_of tasks) (content_in b.contents 1) c.log) one.tasks
+      (two.found (subst (λ (tasks : List TaskSpec). AreFound (from_of tasks) (content_in b.contents 1) b.log) (sym one.tasks)
+      (subst (λ (s : Content). AreFound (from_of a.tasks) s b.log) (sym source) (one.found found)))));
 }
-  where
-    later : (at : ℕ) (status : Status) → IfSome (slice_get a.tasks at) (λ spec. Ran b.log (at + 1) spec status) → IfSome (slice_get a.tasks at) (λ spec. Ran c.log (at + 1) spec status)
-    later at status = if_some_then (λ spec. Ran b.log (at + 1) spec status) (λ spec. Ran c.log (at + 1) spec status) (slice_get a.tasks at)
-        (λ spec ran. ran_later two.more b.log c.log (at + 1) spec status two.logged ran)
-    ran : (at : ℕ) → length a.ends ≤ at → IfSome (slice_get c.ends at) (λ status. IfSome (slice_get a.tasks at) (λ spec. Ran c.log (at + 1) spec status))
-    ran at past = elim (cases_lt at (length b.ends)) [
-      | inl below ↦
-          let same : slice_get c.ends at ≡ slice_get b.ends at = ap (λ (ends : List Status). slice_get ends at) two.joined ∙ get_before b.ends two.ended at below in
-          subst (λ (o : Option Status). IfSome o (λ status. IfSome (slice_get a.tasks at) (λ spec. Ran c.log (at + 1) spec status))) (sym same)
-          (if_some_then (λ status. IfSome (slice_get a.tasks at) (λ spec. Ran b.log (at + 1) spec status)) (λ status. IfSome (slice_get a.tasks at) (λ spec. Ran c.log (at + 1) spec status)) (slice_get b.ends at) (later at) (one.ran at past))
-      | inr above ↦
-          subst (λ (tasks : List TaskSpec). IfSome (slice_get c.ends at) (λ status. IfSome (slice_get tasks at) (λ spec. Ran c.log (at + 1) spec status))) one.tasks
-          (two.ran at above)
-    ]
 
 -- ---- one job that was run
 
 pub record RanOne (before : State) (spec : TaskSpec) (status : Status) (log : List Entry) (contents : Contents) : Type 0 where
-  pub ended : EndedSo (turn_of (length before.ends + 1)) status log
-  pub finished : status ≡ Success → AllByRecursion (IsFinished (turn_of (length before.ends + 1)) log) spec.tags
+  pub ran : RanJob spec (length before.ends + 1) status before.log log
   pub copied : Content
   pub set : contents ≡ slice_set before.contents 1 copied
-  pub more : List Entry
-  pub logged : log ≡ more ++ before.log
   pub promised : (place : ℕ → List ℕ) (o : Content) → place (length before.ends + 1) ≡ spec.to
       → Promise place o before.log (content_in before.contents 2) → Promise place o log (content_in contents 2)
   pub found : (place : ℕ → List ℕ) → place (length before.ends + 1) ≡ spec.from
@@ -176,21 +100,16 @@ goes_one before after spec status is ran tasks execs ends = record {
   contents = ran.set;
   ended = status ∷ [];
   joined = ends;
-  ran = λ at past.
-      subst (λ (es : List Status). IfSome (slice_get es at) (λ s. IfSome (slice_get before.tasks at) (λ t. Ran after.log (at + 1) t s))) (sym ends)
-      (get_one before.ends status (λ s. IfSome (slice_get before.tasks at) (λ t. Ran after.log (at + 1) t s)) at past
-      (λ here. subst (λ (k : ℕ). IfSome (slice_get before.tasks k) (λ t. Ran after.log (k + 1) t status)) (sym here)
-      (subst (λ (o : Option TaskSpec). IfSome o (λ t. Ran after.log (length before.ends + 1) t status)) (sym is)
-      (record { ended = ran.ended; finished = ran.finished }))));
-  more = ran.more;
-  logged = ran.logged;
-  promised = λ place o places promise. ran.promised place o (at_place place places).1 promise;
-  found = λ place places found. ran.found place (at_place place places).0 found;
+  ran = (spec, after.log, is, ran.ran, refl);
+  promised = λ o. ran.promised (to_of before.tasks) o (ap (place (λ (t : TaskSpec). t.to)) (task_there is));
+  found = ran.found (from_of before.tasks) (ap (place (λ (t : TaskSpec). t.from)) (task_there is));
 }
   where
-    at_place : (place : ℕ → List ℕ) → Places place before.tasks → (place (length before.ends + 1) ≡ spec.from) × (place (length before.ends + 1) ≡ spec.to)
-    at_place place places =
-        subst (λ (o : Option TaskSpec). IfSome o (λ t. (place (length before.ends + 1) ≡ t.from) × (place (length before.ends + 1) ≡ t.to))) is (places (length before.ends))
+    place : (TaskSpec → List ℕ) → Option TaskSpec → List ℕ
+    place of o = unwrap_or (option_map of o) []
+
+    task_there : slice_get before.tasks (length before.ends) ≡ Some spec → task_of before.tasks (length before.ends + 1) ≡ Some spec
+    task_there e = ap (task_of before.tasks) (one_more (length before.ends)) ∙ e
 
 -- ---- order
 
@@ -257,32 +176,29 @@ runs_more first (f ∷ events) text mid e answer after runs does = (
 
 -- ---- the promise
 
--- it holds, and the source is as it was
+-- what holds at each moment: the source is as it was
 pub record Keeps (first state : State) : Type 0 where
-  pub holds : Holds first state
+  pub promise : Promise (to_of state.tasks) (content_in first.contents 2) state.log (content_in state.contents 2)
+  pub found : AreFound (from_of state.tasks) (content_in first.contents 1) state.log
+  pub ran : RanJobs state.tasks 0 state.ends [] state.log
   pub source : content_in state.contents 1 ≡ content_in first.contents 1
 
 keeps_along : (first a b : State) → b ≡ a → Keeps first a → Keeps first b
 keeps_along first a b e keeps = subst (λ (s : State). Keeps first s) (sym e) keeps
 
-places_before : (place : ℕ → List ℕ) (tasks more : List TaskSpec) → Places place (tasks ++ more) → Places place tasks
-places_before place tasks more places at = elim (cases_lt at (length tasks)) [
-  | inl below ↦
-      subst (λ (o : Option TaskSpec). IfSome o (λ spec. (place (at + 1) ≡ spec.from) × (place (at + 1) ≡ spec.to))) (get_before tasks more at below) (places at)
-  | inr above ↦ none_past (λ spec. (place (at + 1) ≡ spec.from) × (place (at + 1) ≡ spec.to)) tasks at above
-]
-
 triggers_keeps : (first before : State) (plan : Option (List TaskSpec)) (text : List ℕ) (after : State) → Keeps first before → Triggers before plan text after → Keeps first after
 triggers_keeps first before None text after keeps does = keeps_along first _ after does.0 (record {
-  holds = record { promise = keeps.holds.promise; found = keeps.holds.found };
+  promise = keeps.promise;
+  found = keeps.found;
+  ran = keeps.ran;
   source = keeps.source;
 })
 triggers_keeps first before (Some specs) text after keeps does = ⊎_elim
     (λ made. keeps_along first _ after made.1 (record {
-      holds = record {
-        promise = λ place places. keeps.holds.promise place (places_before place before.tasks specs places);
-        found = λ place places. keeps.holds.found place (places_before place before.tasks specs places);
-      };
+      promise = promise_alike (to_of before.tasks) (to_of (before.tasks ++ specs)) (content_in first.contents 2) before.log (content_in before.contents 2)
+          (to_alike before.tasks specs before.ends before.log keeps.ran) keeps.promise;
+      found = found_alike before.tasks specs before.ends (content_in first.contents 1) before.log keeps.ran keeps.found;
+      ran = ran_more before.tasks specs 0 before.ends [] before.log keeps.ran;
       source = keeps.source;
     }))
     (λ full. keeps_along first before after full.1 keeps) does
@@ -293,16 +209,17 @@ does_keeps first before (event.Trigger policy) text after keeps does = ⊎_elim
     (λ other. keeps_along first before after other.1 keeps) does
 does_keeps first before event.Finish text after keeps does =
     let goes = does.0.goes in
+    let zero_more : length before.ends ≡ 0 + length before.ends = omega arith in
     record {
-      holds = record {
-        promise = λ place places.
-            let before_places = places_along place after.tasks before.tasks (sym goes.tasks) places in
-            goes.promised place (content_in first.contents 2) before_places (keeps.holds.promise place before_places);
-        found = λ place places.
-            let before_places = places_along place after.tasks before.tasks (sym goes.tasks) places in
-            subst (λ (s : Content). AreFound place s after.log) keeps.source
-            (goes.found place before_places (subst (λ (s : Content). AreFound place s before.log) (sym keeps.source) (keeps.holds.found place before_places)));
-      };
+      promise = subst (λ (tasks : List TaskSpec). Promise (to_of tasks) (content_in first.contents 2) after.log (content_in after.contents 2)) (sym goes.tasks)
+          (goes.promised (content_in first.contents 2) keeps.promise);
+      found = subst (λ (tasks : List TaskSpec). AreFound (from_of tasks) (content_in first.contents 1) after.log) (sym goes.tasks)
+          (subst (λ (s : Content). AreFound (from_of before.tasks) s after.log) keeps.source
+          (goes.found (subst (λ (s : Content). AreFound (from_of before.tasks) s before.log) (sym keeps.source) keeps.found)));
+      ran = subst (λ (tasks : List TaskSpec). RanJobs tasks 0 after.ends [] after.log) (sym goes.tasks)
+          (subst (λ (ends : List Status). RanJobs before.tasks 0 ends [] after.log) (sym goes.joined)
+          (ran_then before.tasks 0 before.ends goes.ended [] before.log after.log keeps.ran
+          (subst (λ (n : ℕ). RanJobs before.tasks n goes.ended before.log after.log) zero_more goes.ran)));
       source = source_stays before after goes ∙ keeps.source;
     }
 does_keeps first before (event.Tags reg) text after keeps does = keeps_along first before after does.0 keeps
@@ -317,14 +234,20 @@ nothing_found : (place : ℕ → List ℕ) (c : Content) → AreFound place c []
 nothing_found place c e tag media bytes (k, within, is) says = absurd (omega arith)
 
 pub holds_after : (opens : Contents) (events : List Event) (text : List ℕ) (after : State) → Honest (content_in opens 2) → Runs (opening opens) events text after → Holds (opening opens) after
-holds_after opens events text after honest runs = (runs_keeps (opening opens) (opening opens) events text after start runs).holds
+holds_after opens events text after honest runs =
+    let keeps = runs_keeps (opening opens) (opening opens) events text after start runs in
+    record {
+      promise = keeps.promise;
+      found = keeps.found;
+      ran = keeps.ran;
+      final = are_final after.tasks after.ends after.log keeps.ran;
+    }
   where
     start : Keeps (opening opens) (opening opens)
     start = record {
-      holds = record {
-        promise = λ place places. promise_opens place (content_in opens 2) honest;
-        found = λ place places. nothing_found place (content_in opens 1);
-      };
+      promise = promise_opens (to_of []) (content_in opens 2) honest;
+      found = nothing_found (from_of []) (content_in opens 1);
+      ran = refl;
       source = refl;
     }
 

@@ -1,6 +1,6 @@
 -- What is stored in one registry of several, and the children of an index.
-use Rattle.std.proofs.Common.{◌≡◌, ◌≢◌, ◌<◌, ◌≤◌, ◌-◌, ◌+◌, ℕ, zero, suc, Bool, true, false, List, [], ◌∷◌, ◌++◌, length, map, get_or, drop, Option, Some, None, option_map, option_and_then, IfSome, slice_get, slice_set, Result, Ok, Err, OnOk, inl, inr, refl, sym, ap, subst, ◌∙◌, append_assoc, arith}
-use Rattle.std.specs.Option.{option_copied, unwrap_or}
+use Rattle.std.proofs.Common.{◌≡◌, ◌<◌, ◌≤◌, ◌-◌, ◌+◌, ℕ, zero, suc, List, [], ◌∷◌, ◌++◌, length, get_or, drop, Option, Some, None, option_map, option_and_then, IfSome, slice_get, slice_set, Result, Ok, Err, OnOk, refl, sym, ap, subst, ◌∙◌, append_assoc, arith}
+use Rattle.std.specs.Option.{unwrap_or}
 use Rattle.std.specs.List.{AllByRecursion, All}
 use Rattle.std.proofs.lemmas.List.{append-nil, at_drop_more, drop_all, map-set}
 use Rattle.std.proofs.lemmas.List.Elements.{All-cons, All-nil}
@@ -12,8 +12,8 @@ use Rattle.hr_manifest.specs.declared.child.Child.{Child}
 use Rattle.hr_manifest.specs.declared.child.ChildKind.TheVariants as kind
 use Rattle.hr_adapter.specs.Content.{Content, manifest_at, tag_at}
 use Rattle.hr_memreg.specs.Mem.{Mem}
-use Rattle.hr_replay.specs.Fit.{ArePlain, IsWell}
-use Rattle.hr_replay.specs.Opening.{Contents, child_of, children_of, content_in, contents_of, with_index, with_registry, with_tagged}
+use Rattle.hr_replay.specs.Fit.{ArePlain}
+use Rattle.hr_replay.specs.Opening.{child_of, children_of, content_in, contents_of, with_index, with_registry, with_tagged}
 
 -- ---- children
 
@@ -38,9 +38,9 @@ pub child_found : (c : Content) (repo : List ℕ) (tags : List (List ℕ)) (at :
 child_found c repo tags at kids kid tag so_far within is found =
     let rest = children_of c repo (drop (at + 1) tags) in
     let step : children_of c repo (drop at tags) ≡ option_map (λ others. kid ∷ others) rest =
-        at_drop_more (children_of c repo) tags at tag within
-            ∙ ap (λ (t : List ℕ). option_and_then (λ child. option_map (λ others. child ∷ others) rest) (child_of c repo t)) (sym is)
-            ∙ ap (λ (o : Option Child). option_and_then (λ child. option_map (λ others. child ∷ others) rest) o) found
+    at_drop_more (children_of c repo) tags at tag within
+    ∙ ap (λ (t : List ℕ). option_and_then (λ child. option_map (λ others. child ∷ others) rest) (child_of c repo t)) (sym is)
+    ∙ ap (λ (o : Option Child). option_and_then (λ child. option_map (λ others. child ∷ others) rest) o) found
     in
     so_far ∙ ap (behind kids) step ∙ behind_one kids kid rest
 
@@ -51,9 +51,9 @@ pub child_lacks : (c : Content) (repo : List ℕ) (tags : List (List ℕ)) (at :
 child_lacks c repo tags at kids tag so_far within is lacks =
     let rest = children_of c repo (drop (at + 1) tags) in
     let step : children_of c repo (drop at tags) ≡ None =
-        at_drop_more (children_of c repo) tags at tag within
-            ∙ ap (λ (t : List ℕ). option_and_then (λ child. option_map (λ others. child ∷ others) rest) (child_of c repo t)) (sym is)
-            ∙ ap (λ (o : Option Child). option_and_then (λ child. option_map (λ others. child ∷ others) rest) o) lacks
+    at_drop_more (children_of c repo) tags at tag within
+    ∙ ap (λ (t : List ℕ). option_and_then (λ child. option_map (λ others. child ∷ others) rest) (child_of c repo t)) (sym is)
+    ∙ ap (λ (o : Option Child). option_and_then (λ child. option_map (λ others. child ∷ others) rest) o) lacks
     in
     so_far ∙ ap (behind kids) step
 
@@ -68,7 +68,7 @@ pub child_is : (c : Content) (repo tag : List ℕ) (d : Digest) (m : Fetched) (k
     → kid ≡ record { kind = kind.Manifest; digest = d; size = length m.bytes; media = m.media } → child_of c repo tag ≡ Some kid
 child_is c repo tag d m kid names there is =
     ap (option_and_then (λ e. option_map (λ n. record { kind = kind.Manifest; digest = e; size = length n.bytes; media = n.media }) (manifest_at c repo e))) names
-        ∙ ap (option_map (λ n. record { kind = kind.Manifest; digest = d; size = length n.bytes; media = n.media })) there ∙ ap Some (sym is)
+    ∙ ap (option_map (λ n. record { kind = kind.Manifest; digest = d; size = length n.bytes; media = n.media })) there ∙ ap Some (sym is)
 
 pub child_is_none : (c : Content) (repo tag : List ℕ) → tag_at c repo tag ≡ None → child_of c repo tag ≡ None
 child_is_none c repo tag none =
@@ -77,7 +77,7 @@ child_is_none c repo tag none =
 pub child_is_lost : (c : Content) (repo tag : List ℕ) (d : Digest) → tag_at c repo tag ≡ Some d → manifest_at c repo d ≡ None → child_of c repo tag ≡ None
 child_is_lost c repo tag d names none =
     ap (option_and_then (λ e. option_map (λ n. record { kind = kind.Manifest; digest = e; size = length n.bytes; media = n.media }) (manifest_at c repo e))) names
-        ∙ ap (option_map (λ n. record { kind = kind.Manifest; digest = d; size = length n.bytes; media = n.media })) none
+    ∙ ap (option_map (λ n. record { kind = kind.Manifest; digest = d; size = length n.bytes; media = n.media })) none
 
 -- ---- their media types
 
@@ -129,9 +129,9 @@ pub registry_is : (regs : List Mem) (reg at : ℕ) (old new : Mem) (change : Con
     → new.content ≡ change old.content → with_registry (contents_of regs) reg change ≡ contents_of (slice_set regs at new)
 registry_is regs reg at old new change e within is made =
     ap (λ (k : ℕ). slice_set (contents_of regs) k (change (content_in (contents_of regs) reg))) (sym e)
-        ∙ ap (λ (c : Content). slice_set (contents_of regs) at (change c)) (content_is regs reg at old e within is)
-        ∙ ap (λ (c : Content). slice_set (contents_of regs) at c) (sym made)
-        ∙ sym (map-set (λ (m : Mem). m.content) regs at new)
+    ∙ ap (λ (c : Content). slice_set (contents_of regs) at (change c)) (content_is regs reg at old e within is)
+    ∙ ap (λ (c : Content). slice_set (contents_of regs) at c) (sym made)
+    ∙ sym (map-set (λ (m : Mem). m.content) regs at new)
 
 plain_at : (regs : List Mem) (at : ℕ) (old : Mem) → at < length regs → old ≡ get_or regs at old → AllByRecursion ArePlain (contents_of regs) → ArePlain old.content
 plain_at [] at old within is all = absurd (omega arith)
@@ -146,7 +146,7 @@ pub index_is : (regs : List Mem) (reg at : ℕ) (old new : Mem) (repo tag : List
     → option_map (λ kids. with_registry (contents_of regs) reg (with_index repo tag kids)) (children_of (content_in (contents_of regs) reg) repo tags) ≡ Some (contents_of (slice_set regs at new))
 index_is regs reg at old new repo tag tags e within is made =
     ap (λ (c : Content). option_map (λ kids. with_registry (contents_of regs) reg (with_index repo tag kids)) (children_of c repo tags)) (content_is regs reg at old e within is)
-        ∙ go (children_of old.content repo tags) made
+    ∙ go (children_of old.content repo tags) made
   where
     go : (kids : Option (List Child)) → option_map (λ kids. with_index repo tag kids old.content) kids ≡ Some new.content
         → option_map (λ kids. with_registry (contents_of regs) reg (with_index repo tag kids)) kids ≡ Some (contents_of (slice_set regs at new))
@@ -160,7 +160,7 @@ pub index_lacks : (regs : List Mem) (reg at : ℕ) (old : Mem) (repo tag : List 
     → option_map (λ kids. with_registry (contents_of regs) reg (with_index repo tag kids)) (children_of (content_in (contents_of regs) reg) repo tags) ≡ None
 index_lacks regs reg at old repo tag tags e within is none =
     ap (λ (c : Content). option_map (λ kids. with_registry (contents_of regs) reg (with_index repo tag kids)) (children_of c repo tags)) (content_is regs reg at old e within is)
-        ∙ ap (option_map (λ kids. with_registry (contents_of regs) reg (with_index repo tag kids))) none
+    ∙ ap (option_map (λ kids. with_registry (contents_of regs) reg (with_index repo tag kids))) none
 
 -- ---- the child that was read
 
@@ -169,7 +169,7 @@ pub child_read : (c : Content) (repo tag : List ℕ) (d : Digest) (m : Fetched) 
 child_read c repo tag d m bytes media names there same_bytes same_media =
     child_is c repo tag d m (record { kind = kind.Manifest; digest = d; size = length bytes; media = media }) names there
     (ap (λ (b : List ℕ). record { kind = kind.Manifest; digest = d; size = length b; media = media }) same_bytes
-        ∙ ap (λ (t : List ℕ). record { kind = kind.Manifest; digest = d; size = length m.bytes; media = t }) same_media)
+    ∙ ap (λ (t : List ℕ). record { kind = kind.Manifest; digest = d; size = length m.bytes; media = t }) same_media)
 
 -- the index was stored
 pub index_made : (c : Content) (repo tag : List ℕ) (tags : List (List ℕ)) (kids : List Child) (media bytes : List ℕ) (new : Content) → children_of c repo tags ≡ Some kids
@@ -177,7 +177,7 @@ pub index_made : (c : Content) (repo tag : List ℕ) (tags : List (List ℕ)) (k
     → option_map (λ found. with_index repo tag found c) (children_of c repo tags) ≡ Some new
 index_made c repo tag tags kids media bytes new found made is text =
     ap (option_map (λ found. with_index repo tag found c)) found
-        ∙ ap Some (sym (made ∙ ap (λ (m : List ℕ). with_tagged repo tag m bytes c) is ∙ ap (λ (b : List ℕ). with_tagged repo tag index_media b c) text))
+    ∙ ap Some (sym (made ∙ ap (λ (m : List ℕ). with_tagged repo tag m bytes c) is ∙ ap (λ (b : List ℕ). with_tagged repo tag index_media b c) text))
 
 -- ---- the second registry was taken out and put back, after both were changed
 

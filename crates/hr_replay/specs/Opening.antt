@@ -43,7 +43,8 @@ with_stored repo media bytes c =
 
 -- the content with a manifest under its digest, and the tag naming it
 abbrev pub with_tagged : List ℕ → List ℕ → List ℕ → List ℕ → Content → Content
-with_tagged repo tag media bytes c = with_tag (with_stored repo media bytes c) repo tag (digest_of bytes)
+with_tagged repo tag media bytes c =
+    with_tag (with_stored repo media bytes c) repo tag (digest_of bytes)
 
 -- the content with an image: its config, its layers, its manifest and its tag
 abbrev pub with_image : List ℕ → List ℕ → List (List ℕ) → Content → Content
@@ -75,8 +76,8 @@ after_line contents (line.Image reg repo tag layers) =
 after_line contents (line.Index reg repo tag children) = option_map
     (λ kids. with_registry contents reg.0 (with_index repo tag kids))
     (children_of (content_in contents reg.0) repo children)
-after_line contents (line.Orphan reg repo layers) =
-    Some (with_registry contents reg.0 (with_stored repo image_media (image_text config_text layers)))
+after_line contents (line.Orphan reg repo layers) = Some
+    (with_registry contents reg.0 (with_stored repo image_media (image_text config_text layers)))
 after_line contents (line.Manifest reg repo tag media text) =
     Some (with_registry contents reg.0 (with_tagged repo tag media text))
 after_line contents (line.Event event) = Some contents

@@ -1,16 +1,19 @@
 -- What the events of a script do. (Our own.)
-use Rattle.std.specs.Prelude.{◌≡◌, ◌≢◌, ◌<◌, ◌≤◌, ◌+◌, ◌⊎◌, ℕ, Bool, true, false, is_some, List, [], ◌∷◌, ◌++◌, length, slice_get, slice_set, take, Contains, Option, Some, None, IfSome}
+use Rattle.std.specs.Prelude.{◌≡◌, ◌≢◌, ◌<◌, ◌≤◌, ◌+◌, ◌⊎◌, ℕ, zero, suc, Bool, true, false, is_some, List, [], ◌∷◌, ◌++◌, length, slice_get, slice_set, Contains, Option, Some, None, option_map}
 use Rattle.std.specs.List.{AllByRecursion, list_all}
+use Rattle.std.specs.Option.{unwrap_or}
 use Rattle.hr_base.specs.declared.status.Status.{Status}
 use Rattle.hr_base.specs.declared.status.Status.TheVariants.{Success}
+use Rattle.hr_event.specs.declared.cause.Cause.{Cause}
 use Rattle.hr_event.specs.declared.entry.Entry.{Entry}
+use Rattle.hr_event.specs.declared.entry.What.TheVariants.{Ended}
 use Rattle.hr_event.specs.declared.event.Event.{Event}
 use Rattle.hr_event.specs.declared.event.Event.TheVariants as event
 use Rattle.hr_event.specs.declared.task.TaskSpec.{TaskSpec}
 use Rattle.hr_event.specs.declared.task.Turn.{Turn}
 use Rattle.hr_adapter.specs.Content.{Content}
 use Rattle.hr_copy.specs.Going.{AreFound}
-use Rattle.hr_copy.specs.Outcome.{EndedSo, IsFinished}
+use Rattle.hr_copy.specs.Outcome.{IsFinished, Ran}
 use Rattle.hr_journal.specs.Promise.{Promise}
 use Rattle.hr_replay.specs.Opening.{Contents, content_in}
 use Rattle.hr_replay.specs.Plan.{plan_of, job_limit}
@@ -32,19 +35,44 @@ pub record State : Type 0 where
 abbrev pub opening : Contents → State
 opening contents = record { contents = contents; log = []; tasks = []; ends = []; execs = [] }
 
--- each job has this place: the repository that it reads, and the one that it writes
-abbrev pub Places : (ℕ → List ℕ) → List TaskSpec → Type 0
-Places place tasks = (at : ℕ) → IfSome (slice_get tasks at)
-    (λ spec. (place (at + 1) ≡ spec.from) × (place (at + 1) ≡ spec.to))
-
 -- the turn of a job: its one revision
 abbrev pub turn_of : ℕ → Turn
 turn_of job = record { job = record { 0 = job }; rev = 0; attempts = 1 }
 
--- a job that was run ended so, and with success only where each of its tags is finished
-pub record Ran (log : List Entry) (job : ℕ) (spec : TaskSpec) (status : Status) : Type 0 where
-  pub ended : EndedSo (turn_of job) status log
-  pub finished : status ≡ Success → AllByRecursion (IsFinished (turn_of job) log) spec.tags
+-- the task of a job, which is numbered from 1
+abbrev pub task_of : List TaskSpec → ℕ → Option TaskSpec
+task_of tasks zero = None
+task_of tasks (suc at) = slice_get tasks at
+
+-- the repository that a job reads, and the one that it writes
+abbrev pub from_of : List TaskSpec → ℕ → List ℕ
+from_of tasks job = unwrap_or (option_map (λ spec. spec.from) (task_of tasks job)) []
+
+abbrev pub to_of : List TaskSpec → ℕ → List ℕ
+to_of tasks job = unwrap_or (option_map (λ spec. spec.to) (task_of tasks job)) []
+
+-- a job was run as its task says, in its one revision, and ended so: with success only where each
+-- of its tags is finished
+pub record RanJob (spec : TaskSpec) (job : ℕ) (status : Status) (older newer : List Entry) : Type 0 where
+  pub ran : Ran spec (turn_of job) status older newer
+  pub finished : status ≡ Success → AllByRecursion (IsFinished (turn_of job) newer) spec.tags
+
+-- the jobs behind so many were run, one after the other, and ended so
+abbrev pub RanJobs : List TaskSpec → ℕ → List Status → List Entry → List Entry → Type 0
+RanJobs tasks before [] older newer = newer ≡ older
+RanJobs tasks before (status ∷ later) older newer = (spec : TaskSpec) × (mid : List Entry)
+    × (slice_get tasks before ≡ Some spec) × RanJob spec (before + 1) status older mid
+    × RanJobs tasks (before + 1) later mid newer
+
+-- how a job ended, of those from job 1 on
+abbrev pub end_of : List Status → ℕ → Option Status
+end_of ends zero = None
+end_of ends (suc at) = slice_get ends at
+
+-- each final status that an entry names is the one with which its job ended
+abbrev pub AreFinal : List Status → List Entry → Type 0
+AreFinal ends log = (e : Entry) (status : Status) (cause : Option Cause) → Contains log e
+    → e.what ≡ Ended status cause → end_of ends e.job.0 ≡ Some status
 
 -- waiting jobs were run, one after the other from the first: they wrote to registry 2 alone
 pub record Goes (before after : State) : Type 0 where
@@ -54,18 +82,13 @@ pub record Goes (before after : State) : Type 0 where
   pub contents : after.contents ≡ slice_set before.contents 1 copied
   pub ended : List Status
   pub joined : after.ends ≡ before.ends ++ ended
-  pub ran : (at : ℕ) → length before.ends ≤ at → IfSome (slice_get after.ends at)
-      (λ status. IfSome (slice_get before.tasks at) (λ spec. Ran after.log (at + 1) spec status))
-  -- the older entries stay
-  pub more : List Entry
-  pub logged : after.log ≡ more ++ before.log
+  pub ran : RanJobs before.tasks (length before.ends) ended before.log after.log
   -- the destination keeps the promise, and the journal says what the source shows
-  pub promised : (place : ℕ → List ℕ) (o : Content) → Places place before.tasks
-      → Promise place o before.log (content_in before.contents 2)
-      → Promise place o after.log (content_in after.contents 2)
-  pub found : (place : ℕ → List ℕ) → Places place before.tasks
-      → AreFound place (content_in before.contents 1) before.log
-      → AreFound place (content_in before.contents 1) after.log
+  pub promised : (o : Content)
+      → Promise (to_of before.tasks) o before.log (content_in before.contents 2)
+      → Promise (to_of before.tasks) o after.log (content_in after.contents 2)
+  pub found : AreFound (from_of before.tasks) (content_in before.contents 1) before.log
+      → AreFound (from_of before.tasks) (content_in before.contents 1) after.log
 
 -- all waiting jobs were run
 pub record Finishes (before after : State) : Type 0 where
@@ -79,9 +102,13 @@ Triggers before None text after =
     × (text ≡ failed_text (length before.execs + 1))
 Triggers before (Some specs) text after =
     ((length before.tasks + length specs ≤ job_limit)
-    × (after ≡ record before { tasks = before.tasks ++ specs; execs = before.execs ++ Some (length specs) ∷ [] })
+    × (after ≡ record before {
+      tasks = before.tasks ++ specs;
+      execs = before.execs ++ Some (length specs) ∷ [];
+    })
     × (text ≡ created_text (length before.execs + 1) (length specs)))
-    ⊎ ((job_limit < length before.tasks + length specs) × (after ≡ before) × (text ≡ full_text job_limit))
+    ⊎ ((job_limit < length before.tasks + length specs) × (after ≡ before)
+    × (text ≡ full_text job_limit))
 
 -- what an event makes of a state, and its answer
 abbrev pub Does : State → Event → List ℕ → State → Type 0
@@ -89,7 +116,8 @@ Does before (event.Trigger policy) text after =
     ((policy.0 ≡ 1) × Triggers before (plan_of (content_in before.contents 1)) text after)
     ⊎ ((policy.0 ≢ 1) × (after ≡ before) × (text ≡ no_policy_text policy.0))
 Does before event.Finish text after = Finishes before after × (text ≡ idle_text)
-Does before (event.Tags reg) text after = (after ≡ before) × (text ≡ tags_text (content_in before.contents reg.0))
+Does before (event.Tags reg) text after =
+    (after ≡ before) × (text ≡ tags_text (content_in before.contents reg.0))
 Does before _ text after = ⊥
 
 -- events one after the other, with their answers
@@ -104,7 +132,8 @@ is_success _ = false
 
 -- each of these executions has a plan, and each of so many jobs ended with success
 abbrev pub AreDone : List (Option ℕ) → List Status → ℕ → Type 0
-AreDone execs ends jobs = (list_all is_some execs ≡ true) × (length ends ≡ jobs) × (list_all is_success ends ≡ true)
+AreDone execs ends jobs = (list_all is_some execs ≡ true) × (length ends ≡ jobs)
+    × (list_all is_success ends ≡ true)
 
 -- each execution succeeded: its plan was taken, and each of its tasks ended with success
 abbrev pub IsDone : State → Type 0

@@ -1,5 +1,5 @@
 -- What a text stands for as a script, and why it is none. (Our own.)
-use Rattle.std.specs.Prelude.{◌≡◌, ◌⊎◌, ℕ, List, Option, Some, None, Result, Ok, Err}
+use Rattle.std.specs.Prelude.{◌≡◌, ℕ, List, Some, None, Ok, Err}
 use Rattle.hr_event.specs.declared.event.Event.{Event}
 use Rattle.hr_script.specs.Reading.{IsReading}
 use Rattle.hr_script.specs.declared.reading.Lines.{Lines}

@@ -13,7 +13,8 @@ abbrev pub line : List ℕ → List ℕ
 line text = text ++ 10 ∷ []
 
 abbrev pub created_text : ℕ → ℕ → List ℕ
-created_text exec tasks = line (codes "execution " ++ decimal exec ++ codes " tasks " ++ decimal tasks)
+created_text exec tasks =
+    line (codes "execution " ++ decimal exec ++ codes " tasks " ++ decimal tasks)
 
 abbrev pub failed_text : ℕ → List ℕ
 failed_text exec = line (codes "execution " ++ decimal exec ++ codes " failed")

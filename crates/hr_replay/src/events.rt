@@ -44,12 +44,7 @@ impl Session {
     }
 
     // Plans policy 1 into an execution.
-    fn trigger(
-        &mut self,
-        alloc: Global,
-        policy: PolicyNo,
-        text: &mut Vec<u8>,
-    ) -> Result<(), Memory>
+    fn trigger(&mut self, alloc: Global, policy: PolicyNo, text: &mut Vec<u8>) -> Result<(), Memory>
         requires ordered { IsOrdered self.old }
         ensures ok { OnOk result ((answer : List ℕ) × (text.new.items ≡ text.old.items ++ answer)
             × Does self.old (event.Trigger policy) answer self.new) }

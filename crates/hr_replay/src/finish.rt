@@ -4,7 +4,7 @@ ghost use Rattle.std.specs.List.{AllByRecursion};
 ghost use Rattle.hr_base.specs.declared.status.Status.TheVariants.{Success};
 ghost use Rattle.hr_adapter.specs.Content.{Content};
 ghost use Rattle.hr_copy.specs.Going.{AreFound};
-ghost use Rattle.hr_copy.specs.Outcome.{EndedSo, IsAny, IsFinished, Wrote};
+ghost use Rattle.hr_copy.specs.Outcome.{IsFinished, Ran};
 ghost use Rattle.hr_journal.specs.Promise.{Promise};
 ghost use Rattle.hr_replay.specs.Opening.{content_in, contents_of};
 ghost use Rattle.hr_replay.specs.Run.{Finishes, Goes, IsOrdered};
@@ -66,13 +66,14 @@ fn run_task(
     spec: &TaskSpec,
 ) -> Result<Status, Memory>
     requires { 2 ≤ length regs.old }
-    ensures ended { IfOk result (λ status. EndedSo turn.now status log.new.newest) }
+    ensures ran { IfOk result
+        (λ status. Ran spec.now turn.now status log.old.newest log.new.newest) }
     ensures finished { result ≡ Ok Success
         → AllByRecursion (IsFinished turn.now log.new.newest) spec.now.tags }
     ensures contents { OnOk result ((copied : Content)
         × (contents_of regs.new ≡ slice_set (contents_of regs.old) 1 copied)) }
-    ensures wrote { OnOk result (Wrote IsAny turn.now log.old.newest log.new.newest) }
-    ensures promised { (place : ℕ → List ℕ) (o : Content) → OnOk result (place turn.now.job.0 ≡ spec.now.to
+    ensures promised { (place : ℕ → List ℕ) (o : Content) → OnOk result
+        (place turn.now.job.0 ≡ spec.now.to
         → Promise place o log.old.newest (content_in (contents_of regs.old) 2)
         → Promise place o log.new.newest (content_in (contents_of regs.new) 2)) }
     ensures found { (place : ℕ → List ℕ) → OnOk result (place turn.now.job.0 ≡ spec.now.from

@@ -9,7 +9,7 @@ ghost use Rattle.hr_replay.specs.Script.{IsScript};
 /// A law: after any events that run from the opening of a script, each tag that was put names a
 /// manifest that was read at the source, whose whole graph stands at the destination.
 pub fn the_promise_holds()
-    ensures { (text : List ℕ) (opens : Contents) (its events : List Event) (said : List ℕ) (state : State)
-        → IsScript text opens its → Runs (opening opens) events said state
+    ensures { (text : List ℕ) (opens : Contents) (its events : List Event) (said : List ℕ)
+        → (state : State) → IsScript text opens its → Runs (opening opens) events said state
         → Holds (opening opens) state }
 {}

@@ -54,25 +54,13 @@ pub(crate) fn store_line(
             repo,
             tag,
             layers,
-        } => Ok(store_image(
-            alloc,
-            &mut regs[reg.0 as usize - 1],
-            &repo,
-            tag,
-            layers,
-        )?),
+        } => Ok(store_image(alloc, &mut regs[reg.0 as usize - 1], &repo, tag, layers)?),
         Line::Index {
             reg,
             repo,
             tag,
             children,
-        } => store_index(
-            alloc,
-            &mut regs[reg.0 as usize - 1],
-            &repo,
-            tag,
-            &children,
-        ),
+        } => store_index(alloc, &mut regs[reg.0 as usize - 1], &repo, tag, &children),
         Line::Orphan { reg, repo, layers } => Ok(store_orphan(
             alloc,
             &mut regs[reg.0 as usize - 1],
@@ -87,12 +75,7 @@ pub(crate) fn store_line(
             text,
         } => {
             let manifest = Fetched { media, bytes: text };
-            Ok(store_tagged(
-                &mut regs[reg.0 as usize - 1],
-                &repo,
-                tag,
-                manifest,
-            )?)
+            Ok(store_tagged(&mut regs[reg.0 as usize - 1], &repo, tag, manifest)?)
         }
         Line::Event(_) => Ok(()),
     }
@@ -106,7 +89,8 @@ fn store_image(
     tag: Tag,
     layers: List<Bytes>,
 ) -> Result<(), Memory>
-    ensures ok { OnOk result (registry.new.content ≡ with_image repo.now tag layers registry.old.content) }
+    ensures ok { OnOk result (registry.new.content
+        ≡ with_image repo.now tag layers registry.old.content) }
 {
     let manifest = image(alloc, &layers)?;
     let config = Bytes::of(alloc, CONFIG)?;
@@ -120,7 +104,8 @@ const CONFIG: &[u8] = b"{}";
 
 // The manifest of an image.
 fn image(alloc: Global, layers: &List<Bytes>) -> Result<Fetched, Memory>
-    ensures { IfOk result (λ m. m ≡ record { media = image_media; bytes = image_text config_text layers.now }) }
+    ensures { IfOk result (λ m. m
+        ≡ record { media = image_media; bytes = image_text config_text layers.now }) }
 {
     Ok(Fetched {
         media: Bytes::of(alloc, b"application/vnd.oci.image.manifest.v1+json")?,
@@ -129,12 +114,9 @@ fn image(alloc: Global, layers: &List<Bytes>) -> Result<Fetched, Memory>
 }
 
 // Stores the layers, each under its digest.
-fn store_layers(
-    registry: &mut MemRegistry,
-    repo: &Name,
-    layers: List<Bytes>,
-) -> Result<(), Memory>
-    ensures ok { OnOk result (registry.new.content ≡ with_blobs registry.old.content repo.now layers) }
+fn store_layers(registry: &mut MemRegistry, repo: &Name, layers: List<Bytes>) -> Result<(), Memory>
+    ensures ok { OnOk result (registry.new.content
+        ≡ with_blobs registry.old.content repo.now layers) }
 {
     for layer in Vec::from(layers) {
         let digest = Digest::of(layer.view());
@@ -165,8 +147,8 @@ fn store_orphan(
     repo: &Name,
     layers: &List<Bytes>,
 ) -> Result<(), Memory>
-    ensures ok { OnOk result (registry.new.content
-        ≡ with_stored repo.now image_media (image_text config_text layers.now) registry.old.content) }
+    ensures ok { OnOk result (registry.new.content ≡ with_stored repo.now
+        image_media (image_text config_text layers.now) registry.old.content) }
 {
     let manifest = image(alloc, layers)?;
     let digest = Digest::of(manifest.bytes.view());
@@ -205,7 +187,8 @@ fn find_children(
     repo: &Name,
     tags: &List<Tag>,
 ) -> Result<List<Child>, LineRefused>
-    ensures ok { IfOk result (λ kids. children_of registry.now.content repo.now tags.now ≡ Some kids) }
+    ensures ok { IfOk result
+        (λ kids. children_of registry.now.content repo.now tags.now ≡ Some kids) }
     ensures reference { result ≡ Err LineRefused.Reference
         → children_of registry.now.content repo.now tags.now ≡ None }
 {
@@ -226,7 +209,8 @@ fn find_child(
     repo: &Name,
     tag: &Tag,
 ) -> Result<Child, LineRefused>
-    ensures ok { IfOk result (λ child. child_of registry.now.content repo.now tag.now ≡ Some child) }
+    ensures ok { IfOk result
+        (λ child. child_of registry.now.content repo.now tag.now ≡ Some child) }
     ensures reference { result ≡ Err LineRefused.Reference
         → child_of registry.now.content repo.now tag.now ≡ None }
 {

@@ -48,7 +48,8 @@ pub fn replay(alloc: Global, text: &[u8]) -> Result<Replayed, Refused>
     ensures ok { IfOk result (λ run. IsReplayed text.now run.kept run.text run.status) }
     ensures bad { (said : List ℕ) → (result ≡ Err (Refused.Bad said))
         → ((number : ℕ) × LacksTag text.now number × (said ≡ bad_text number (codes "reference")))
-        ⊎ ((number : ℕ) × (why : Why) × IsBad text.now number why × (said ≡ bad_text number (why_text why))) }
+        ⊎ ((number : ℕ) × (why : Why) × IsBad text.now number why
+        × (said ≡ bad_text number (why_text why))) }
 {
     let lines = match read_lines(alloc, text) {
         Ok(lines) => lines,
@@ -81,11 +82,13 @@ fn open_script(
     lines: List<Numbered>,
 ) -> Result<(Vec<MemRegistry>, List<Event>), Refused>
     requires { AllByRecursion (λ numbered. IsFit numbered.line) lines }
-    ensures regs { IfOk result (λ opened. after_lines no_contents lines ≡ Ok (contents_of opened.0.items)) }
+    ensures regs { IfOk result
+        (λ opened. after_lines no_contents lines ≡ Ok (contents_of opened.0.items)) }
     ensures events { IfOk result (λ opened. opened.1 ≡ events_in lines) }
     ensures eight { IfOk result (λ opened. length opened.0.items ≡ 8) }
     ensures bad { (said : List ℕ) → result ≡ Err (Refused.Bad said) → (number : ℕ)
-        × (after_lines no_contents lines ≡ Err number) × (said ≡ bad_text number (codes "reference")) }
+        × (after_lines no_contents lines ≡ Err number)
+        × (said ≡ bad_text number (codes "reference")) }
 {
     let mut regs = match empty_registries(alloc) {
         Ok(regs) => regs,
@@ -107,10 +110,12 @@ fn take_lines(
     requires fit { AllByRecursion (λ numbered. IsFit numbered.line) lines }
     requires eight { length regs.old ≡ 8 }
     requires well { AllByRecursion IsWell (contents_of regs.old) }
-    ensures regs { OnOk result (after_lines (contents_of regs.old) lines ≡ Ok (contents_of regs.new)) }
+    ensures regs { OnOk result
+        (after_lines (contents_of regs.old) lines ≡ Ok (contents_of regs.new)) }
     ensures events { IfOk result (λ events. events ≡ events_in lines) }
     ensures bad { (said : List ℕ) → result ≡ Err (Refused.Bad said) → (number : ℕ)
-        × (after_lines (contents_of regs.old) lines ≡ Err number) × (said ≡ bad_text number (codes "reference")) }
+        × (after_lines (contents_of regs.old) lines ≡ Err number)
+        × (said ≡ bad_text number (codes "reference")) }
 {
     let mut events = List::new(alloc);
     for Numbered { number, line } in Vec::from(lines) {
@@ -163,7 +168,8 @@ fn take_line(
 fn run(alloc: Global, regs: Vec<MemRegistry>, events: &List<Event>) -> Result<Replayed, Memory>
     requires eight { length regs.items ≡ 8 }
     requires scripted { AllByRecursion IsScripted events.now }
-    ensures { IfOk result (λ run. IsRun (contents_of regs.items) events.now run.kept run.text run.status) }
+    ensures { IfOk result
+        (λ run. IsRun (contents_of regs.items) events.now run.kept run.text run.status) }
 {
     let mut session = Session::new(alloc, regs);
     let mut text = Vec::new(alloc);

@@ -42,7 +42,8 @@ pub(crate) struct Session {
     pub tasks: List<TaskSpec>,
     /// How the jobs that were run ended, from job 1 on.
     pub ends: List<Status>,
-    /// How many tasks each execution has, from execution 1 on, or `None` where its plan was refused.
+    /// How many tasks each execution has, from execution 1 on, or `None` where its plan was
+    /// refused.
     pub execs: List<Option<u32>>,
 }
 
@@ -53,11 +54,11 @@ impl Model for Session {
     ghost Value = { State };
 
     ghost view = { λ s. record {
-        contents = contents_of s.regs.items;
-        log = s.log.newest;
-        tasks = s.tasks;
-        ends = s.ends;
-        execs = s.execs;
+      contents = contents_of s.regs.items;
+      log = s.log.newest;
+      tasks = s.tasks;
+      ends = s.ends;
+      execs = s.execs;
     } };
 }
 
@@ -133,8 +134,10 @@ fn succeeded(status: Status) -> bool
 // The registries with their numbers, from 1 on.
 fn number_registries(alloc: Global, regs: Vec<MemRegistry>) -> Result<List<RegHeld>, Memory>
     requires { length regs.items ≡ 8 }
-    ensures numbers { IfOk result (λ made. map (λ held. held.reg.0) made ≡ 1 ∷ 2 ∷ 3 ∷ 4 ∷ 5 ∷ 6 ∷ 7 ∷ 8 ∷ []) }
-    ensures contents { IfOk result (λ made. map (λ held. held.held.content) made ≡ contents_of regs.items) }
+    ensures numbers { IfOk result
+        (λ made. map (λ held. held.reg.0) made ≡ 1 ∷ 2 ∷ 3 ∷ 4 ∷ 5 ∷ 6 ∷ 7 ∷ 8 ∷ []) }
+    ensures contents { IfOk result
+        (λ made. map (λ held. held.held.content) made ≡ contents_of regs.items) }
 {
     let mut numbered = List::new(alloc);
     let mut reg = 1u8;

@@ -1,17 +1,15 @@
 -- The words of a command, and how it ends.
-use Rattle.std.proofs.Common.{◌≡◌, ◌<◌, ◌≤◌, ◌⊎◌, inl, inr, ⊎_elim, Option, Some, None, ℕ, Bool, true, nat_eq, List, [], ◌∷◌, length, get_or, refl, sym, ap, ◌∙◌, subst, arith}
+use Rattle.std.proofs.Common.{◌≡◌, ◌<◌, ◌≤◌, ◌⊎◌, inl, inr, ⊎_elim, Option, ℕ, Bool, true, nat_eq, List, [], ◌∷◌, length, get_or, refl, sym, ap, ◌∙◌, subst, arith}
 use Rattle.std.specs.Cmp.Lexicographic.{pointwise}
 use Rattle.std.proofs.lemmas.Slice.Eq.{bytes_eq-Decides}
-use Rattle.hr_top.specs.Answers.{IsAfterFinish, fault_text, long_text, status_at, status_of, usage_text}
-use Rattle.hr_top.specs.Command.{IsAny, IsCopied, IsStatus, SentFront, Stands, TookFront}
+use Rattle.hr_top.specs.Answers.{fault_text, long_text, usage_text}
+use Rattle.hr_top.specs.Command.{IsAny, IsStatus, SentFront, TookFront}
 use Rattle.hr_top.specs.Outcome.{Comes, sent_status_of, text_of, unsent_status_of}
 use Rattle.hr_top.specs.declared.outcome.Outcome.{Outcome}
-use Rattle.hr_top.specs.declared.outcome.Outcome.TheVariants.{Replayed, Usage, NotYet, TooLong, Faulted, Memory}
-use Rattle.hr_top.specs.declared.script.Script.{Script}
-use Rattle.hr_top.specs.declared.held.Ending.{Ending}
-use Rattle.hr_top.specs.declared.image.Image.{Image}
-use Rattle.hr_top.specs.declared.script.Reach.{Reach}
-use Rattle.hr_top.specs.declared.script.Reach.TheVariants.{Stored, Triggered, Finished, Listed}
+use Rattle.hr_top.specs.declared.outcome.Outcome.TheVariants.{Replayed, Usage, Bad, TooLong, Faulted, Memory}
+use Rattle.hr_replay.specs.Replay.{HasStatus}
+use Rattle.hr_replay.specs.Run.{State}
+use Rattle.hr_replay.specs.declared.session.Ending.{Ending}
 
 -- there is one word, and it is this text
 pub one_word : (words : List (List ℕ)) (word v s : List ℕ) (r : Bool) → 1 ≤ length words → length words < 2 → word ≡ get_or words 0 word → v ≡ word → r ≡ pointwise nat_eq v s
@@ -25,33 +23,20 @@ one_word (w ∷ []) word v s r some few is view eq =
     )
 one_word (w ∷ x ∷ more) word v s r some few is view eq = absurd (omega arith)
 
-pub stands_copied : (image : Image) (reach : Reach) (kept : Ending) → IsAfterFinish reach → IsCopied image kept → Stands image reach kept
-stands_copied image Stored kept after copied = absurd after
-stands_copied image Triggered kept after copied = absurd after
-stands_copied image Finished kept after copied = copied
-stands_copied image Listed kept after copied = copied
-
 -- ---- the status
 
-zero_or_seven : (script : Option Script) → (status_of script ≡ 0) ⊎ (status_of script ≡ 7)
-zero_or_seven None = inl refl
-zero_or_seven (Some script) = at script.reach
-  where
-    at : (reach : Reach) → (status_at reach ≡ 0) ⊎ (status_at reach ≡ 7)
-    at Stored = inl refl
-    at Triggered = inr refl
-    at Finished = inl refl
-    at Listed = inl refl
+zero_or_seven : (state : State) (status : ℕ) → HasStatus state status → (status ≡ 0) ⊎ (status ≡ 7)
+zero_or_seven state status has = ⊎_elim (λ done. inl done.1) (λ failed. inr failed.1) has
 
 pub sent_status_is : (outcome : Outcome) (words : List (List ℕ)) (before now : Option (List ℕ)) (faults faults' : ℕ) (kept : Ending) → Comes outcome words before now faults faults' kept
     → IsStatus (sent_status_of outcome)
 sent_status_is (Replayed text status) words before now faults faults' kept comes =
     ⊎_elim
-    (λ zero. subst IsStatus (sym (comes.0.ends ∙ zero)) (0, omega arith, refl))
-    (λ seven. subst IsStatus (sym (comes.0.ends ∙ seven)) (6, omega arith, refl))
-    (zero_or_seven comes.0.script)
+    (λ zero. subst IsStatus (sym zero) (0, omega arith, refl))
+    (λ seven. subst IsStatus (sym seven) (6, omega arith, refl))
+    (zero_or_seven comes.0.run.state status comes.0.run.ends)
 sent_status_is Usage words before now faults faults' kept comes = (1, omega arith, refl)
-sent_status_is (NotYet text) words before now faults faults' kept comes = (2, omega arith, refl)
+sent_status_is (Bad text) words before now faults faults' kept comes = (2, omega arith, refl)
 sent_status_is TooLong words before now faults faults' kept comes = (2, omega arith, refl)
 sent_status_is Faulted words before now faults faults' kept comes = (3, omega arith, refl)
 sent_status_is Memory words before now faults faults' kept comes = (5, omega arith, refl)
@@ -62,7 +47,7 @@ pub cut_off_is : (outcome : Outcome) (words : List (List ℕ)) (before now : Opt
     → SentFront (IsAny words before now faults faults' kept) sent sent'
 cut_off_is (Replayed text status) words before now faults faults' kept sent sent' comes front four = (text, inl (status, comes.0), front)
 cut_off_is Usage words before now faults faults' kept sent sent' comes front four = (usage_text, inr (inl comes.0), front)
-cut_off_is (NotYet text) words before now faults faults' kept sent sent' comes front four = (text, inr (inr (inl comes.0)), front)
+cut_off_is (Bad text) words before now faults faults' kept sent sent' comes front four = (text, inr (inr (inl comes.0)), front)
 cut_off_is TooLong words before now faults faults' kept sent sent' comes front four = (long_text, inr (inr (inl comes.0)), front)
 cut_off_is Faulted words before now faults faults' kept sent sent' comes front four = (fault_text, inr (inr (inr comes)), front)
 cut_off_is Memory words before now faults faults' kept sent sent' comes front four = absurd (omega arith)

@@ -1,7 +1,10 @@
 -- What was read of an input that holds a script. (Our own.)
 use Rattle.std.specs.Prelude.{◌≡◌, ◌≤◌, ◌+◌, ℕ, List, ◌++◌, length, Option}
 use Rattle.hr_cause.specs.Stream.{Gave, IsEnded}
-use Rattle.hr_top.specs.Script.{script_limit}
+
+-- how many bytes a script has at most
+abbrev pub script_limit : ℕ
+script_limit = 1048576
 
 -- these bytes are the whole input, and are no more than a script may have
 pub record WasRead (before : Option (List ℕ)) (bytes : List ℕ) (now : Option (List ℕ)) : Type 0 where

@@ -1,12 +1,4 @@
-pub mod Words
-pub mod Image
-pub mod Script
-pub mod Canonical
-pub mod Held
 pub mod Answers
-pub mod Input
 pub mod Command
+pub mod Input
 pub mod Outcome
-pub use Rattle.hr_cause.specs.Stream
-pub use Rattle.hr_digest.specs.Digest
-pub use Rattle.hex.specs.Hex

@@ -1,21 +1,17 @@
 //! The public call: words and input in, text and state out. (Our own.)
 ghost use Rattle.std.specs.Prelude.{◌≡◌, ◌≤◌, ◌↔◌, ◌⊎◌, IsTrue, List, Option, ℕ, length};
 ghost use Rattle.hr_cause.specs.Stream.{Rose};
-ghost use Rattle.hr_top.specs.Answers.{memory_text, refused_text};
-ghost use Rattle.hr_top.specs.Input.{WasRead};
+ghost use Rattle.hr_top.specs.Answers.{memory_text};
+ghost use Rattle.hr_top.specs.Input.{WasRead, script_limit};
 ghost use Rattle.hr_top.specs.Outcome.{Comes};
-ghost use Rattle.hr_top.specs.Script.{script_limit};
-ghost use Rattle.hr_top.specs.Command.{IsAny, IsFaulted, IsNothing, IsRefused, IsReplay, IsStatus, IsUsage, Replayed, Sent, SentFront, TookFront};
-ghost use Rattle.hr_top.specs.declared.outcome.Outcome.TheVariants as outcome;
+ghost use Rattle.hr_top.specs.Command.{IsAny, IsFaulted, IsNothing, IsRefused, IsReplay, IsStatus, IsUsage, Replayed as IsReplayed, Sent, SentFront, TookFront};
 
-use crate::held::Ending;
 use crate::input::{InputRefused, read_input};
 use crate::outcome::Outcome;
 use crate::output::send;
-use crate::replay::run_script;
-use crate::script::{ScriptRefused, read_script};
-use hr_base::{Bytes, Memory};
+use hr_base::Bytes;
 use hr_cause::{Failed, Sink, Source};
+use hr_replay::{Ending, Refused, Replayed, replay};
 use std::alloc::Global;
 
 /// Runs the command that the words name, and answers the program's status.
@@ -27,11 +23,11 @@ use std::alloc::Global;
 /// |---|---|
 /// | 0 | the script was run, and each execution succeeded |
 /// | 1 | the words name no command: the usage line is sent |
-/// | 2 | the input is no script: the line from which it is none is sent, 0 where it is too long |
+/// | 2 | the input is no script: its first bad line is sent, 0 where it is too long |
 /// | 3 | the input failed |
 /// | 4 | the sink failed: a front of the text was sent |
 /// | 5 | want of memory |
-/// | 7 | the script was run, and an execution was not finished |
+/// | 7 | the script was run, and an execution did not succeed |
 ///
 /// Where several hold, the first of 5, 4, 3, 1, 2, 7 is answered. With any status but 0, 4 and 7
 /// nothing was run. `kept` has to be empty before the call.
@@ -49,7 +45,8 @@ pub fn top<S: Source, K: Sink>(
 
     // 0 and 7: the whole input is a script, which was run, and its answers were sent.
     ensures replayed { (result ≡ 0) ⊎ (result ≡ 7)
-        → Sent (λ text. Replayed words.now (S.left input.old) (S.left input.new) kept.new text result)
+        → Sent (λ text. IsReplayed words.now (S.left input.old) (S.left input.new)
+        kept.new text result)
         (K.sent out.old) (K.sent out.new) }
 
     // 1: the words are others.
@@ -67,7 +64,8 @@ pub fn top<S: Source, K: Sink>(
         → Sent (IsFaulted words.now (S.faults input.old) (S.faults input.new) kept.new)
         (K.sent out.old) (K.sent out.new) }
 
-    // 4: the sink failed. All is as with one of the statuses above, but a front of its text was sent.
+    // 4: the sink failed. All is as with one of the statuses above, but a front of its text was
+    // sent.
     ensures cut_off { result ≡ 4 → Rose (K.faults out.old) (K.faults out.new)
         × SentFront (IsAny words.now (S.left input.old) (S.left input.new)
         (S.faults input.old) (S.faults input.new) kept.new)
@@ -104,7 +102,7 @@ fn play<S: Source>(alloc: Global, words: &[Bytes], input: &mut S, kept: &mut End
         Err(InputRefused::TooLong) => return Outcome::TooLong,
         Err(InputRefused::Memory) => return Outcome::Memory,
     };
-    replay(alloc, &bytes, kept)
+    replay_script(alloc, &bytes, kept)
 }
 
 // Whether the words are the one word `replay`.
@@ -117,38 +115,25 @@ fn is_replay(words: &[Bytes]) -> bool
     }
 }
 
-// Reads a script and runs it.
-fn replay(alloc: Global, bytes: &[u8], kept: &mut Ending) -> Outcome
+// Runs a script.
+fn replay_script(alloc: Global, bytes: &[u8], kept: &mut Ending) -> Outcome
     requires short { length bytes.now ≤ script_limit }
     requires nothing { IsNothing kept.old }
     ensures { (words : List (List ℕ)) (before now : Option (List ℕ)) (faults : ℕ) → IsReplay words
         → WasRead before bytes.now now → Comes result words before now faults faults kept.new }
 {
-    let script = match read_script(alloc, bytes) {
-        Ok(script) => script,
-        Err(ScriptRefused::NotYet { line }) => return not_yet(alloc, line),
-        Err(ScriptRefused::Memory) => return Outcome::Memory,
-    };
-    match run_script(alloc, script) {
-        Ok(run) => {
-            *kept = run.kept;
-            Outcome::Replayed {
-                text: run.text,
-                status: run.status,
-            }
+    match replay(alloc, bytes) {
+        Ok(
+            Replayed {
+                kept: left,
+                text,
+                status,
+            },
+        ) => {
+            *kept = left;
+            Outcome::Replayed { text, status }
         }
-        Err(Memory) => Outcome::Memory,
-    }
-}
-
-// The refusal of the line with this number.
-fn not_yet(alloc: Global, number: u32) -> Outcome
-    ensures { (result ≡ outcome.Memory) ⊎ (result ≡ outcome.NotYet (refused_text number)) }
-{
-    match format!(in alloc; "line {number} not yet\n") {
-        Ok(text) => Outcome::NotYet {
-            text: Bytes::from(text.into_bytes()),
-        },
-        Err(_) => Outcome::Memory,
+        Err(Refused::Bad { text }) => Outcome::Bad { text },
+        Err(Refused::Memory) => Outcome::Memory,
     }
 }

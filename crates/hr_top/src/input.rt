@@ -1,14 +1,11 @@
 //! Reading an input to its end, or to one byte more than a script may have.
 ghost use Rattle.std.specs.Prelude.{◌≡◌, ◌≤◌, ◌⊎◌, ◌<◌, ◌+◌, ◌++◌, IfOk, IsErrOf, IsOk, OnErr, OnOk, length, vec_len};
 ghost use Rattle.hr_cause.specs.Stream.{Gave, IsEnded, Rose};
-ghost use Rattle.hr_top.specs.Script.{script_limit};
 ghost use Rattle.hr_top.specs.Input.{Appends, IsLong, WasRead};
 
 use hr_cause::Source;
+use hr_script::SCRIPT_LIMIT;
 use std::alloc::{AllocError, Global};
-
-/// The most bytes that a script may have.
-const SCRIPT_LIMIT: usize = 1_048_576;
 
 // How many bytes are asked for at once.
 const PIECE: usize = 65_536;
@@ -27,9 +24,11 @@ pub enum InputRefused {
 /// All bytes of an input.
 pub fn read_input<S: Source>(alloc: Global, input: &mut S) -> Result<Vec<u8>, InputRefused>
     ensures ok { IfOk result (λ bytes. WasRead (S.left input.old) bytes.items (S.left input.new)) }
-    ensures too_long { IsErrOf result InputRefused.TooLong → IsLong (S.left input.old) (S.left input.new) }
+    ensures too_long { IsErrOf result InputRefused.TooLong
+        → IsLong (S.left input.old) (S.left input.new) }
     ensures later { S.faults input.old ≤ S.faults input.new }
-    ensures failed { IsErrOf result InputRefused.Failed → Rose (S.faults input.old) (S.faults input.new) }
+    ensures failed { IsErrOf result InputRefused.Failed
+        → Rose (S.faults input.old) (S.faults input.new) }
     ensures calm { IsErrOf result InputRefused.Failed ⊎ (S.faults input.new ≡ S.faults input.old) }
 {
     match make_buffer(alloc) {
@@ -52,9 +51,11 @@ fn read_pieces<S: Source>(
 ) -> Result<Vec<u8>, InputRefused>
     requires { 0 < length buffer.old }
     ensures ok { IfOk result (λ bytes. WasRead (S.left input.old) bytes.items (S.left input.new)) }
-    ensures too_long { IsErrOf result InputRefused.TooLong → IsLong (S.left input.old) (S.left input.new) }
+    ensures too_long { IsErrOf result InputRefused.TooLong
+        → IsLong (S.left input.old) (S.left input.new) }
     ensures later { S.faults input.old ≤ S.faults input.new }
-    ensures failed { IsErrOf result InputRefused.Failed → Rose (S.faults input.old) (S.faults input.new) }
+    ensures failed { IsErrOf result InputRefused.Failed
+        → Rose (S.faults input.old) (S.faults input.new) }
     ensures calm { IsErrOf result InputRefused.Failed ⊎ (S.faults input.new ≡ S.faults input.old) }
 {
     let mut bytes = Vec::new(alloc);
@@ -77,9 +78,11 @@ fn read_piece<S: Source>(
 ) -> Result<usize, InputRefused>
     requires some { 0 < room }
     requires fits { room ≤ length buffer.old }
-    ensures ok { IfOk result (λ count. Appends (S.left input.old) bytes.old.items room count bytes.new.items (S.left input.new)) }
+    ensures ok { IfOk result (λ count. Appends (S.left input.old) bytes.old.items room count
+        bytes.new.items (S.left input.new)) }
     ensures later { S.faults input.old ≤ S.faults input.new }
-    ensures failed { IsErrOf result InputRefused.Failed → Rose (S.faults input.old) (S.faults input.new) }
+    ensures failed { IsErrOf result InputRefused.Failed
+        → Rose (S.faults input.old) (S.faults input.new) }
     ensures calm { IsErrOf result InputRefused.Failed ⊎ (S.faults input.new ≡ S.faults input.old) }
     ensures known { IsErrOf result InputRefused.TooLong → ⊥ }
 {

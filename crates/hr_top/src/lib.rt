@@ -2,16 +2,10 @@
 //! it leaves come out. Start with `command`.
 #![tactic(auto)]
 
-mod canonical;
 mod command;
-mod held;
-mod image;
 mod input;
 mod outcome;
 mod output;
-mod replay;
-mod script;
-mod split;
 
 pub use command::top;
-pub use held::{Ending, Held, Piece};
+pub use hr_replay::{Ending, RegHeld};

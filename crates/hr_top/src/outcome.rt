@@ -10,8 +10,8 @@ pub enum Outcome {
     Replayed { text: Bytes, status: u8 },
     /// The words name no command.
     Usage,
-    /// A line is not the next one of a script.
-    NotYet { text: Bytes },
+    /// A line of the script is bad.
+    Bad { text: Bytes },
     /// The input is longer than a script may be.
     TooLong,
     /// The input failed.
@@ -28,7 +28,7 @@ impl Outcome {
         ensures { result.now ≡ text_of self.now }
     {
         match self {
-            Outcome::Replayed { text, .. } | Outcome::NotYet { text } => text.view(),
+            Outcome::Replayed { text, .. } | Outcome::Bad { text } => text.view(),
             Outcome::Usage =>
                 b"usage: harborrep replay | check FILE | plan FILE P | once FILE P | gen START REPOS | run FILE WORKERS | serve FILE WORKERS PORT\n",
             Outcome::TooLong => b"line 0 long\n",
@@ -44,7 +44,7 @@ impl Outcome {
         match self {
             Outcome::Replayed { status, .. } => *status,
             Outcome::Usage => 1,
-            Outcome::NotYet { .. } | Outcome::TooLong => 2,
+            Outcome::Bad { .. } | Outcome::TooLong => 2,
             Outcome::Faulted => 3,
             Outcome::Memory => 5,
         }

@@ -1,4 +1,4 @@
-use Rattle.std.proofs.Common.{◌≡◌, List, [], ℕ, Option, refl, sym, ap, subst, ◌∙◌}
+use Rattle.std.proofs.Common.{◌≡◌, [], Option, refl, sym, ap, subst, ◌∙◌}
 use Rattle.std.specs.Option.{unwrap_or}
 use Rattle.hr_adapter.specs.Content.{Content}
 use Rattle.hr_copy.specs.Going.{AreFound}
@@ -18,13 +18,12 @@ returns c =
     let first : content_in (contents_of regs) 1 ≡ c.index-regs-0.result.content = first_is regs none c.index-regs-0.result c.requires c.index-regs-0.is in
     let source = first ∙ ap (λ (m : Mem). m.content) c.index-regs-0.is in
     let same : s.content ≡ content_in (contents_of regs) 1 =
-        ap (λ (o : Option Content). unwrap_or o []) (copied.ensures.source.quiet refl).1 ∙ sym source in
+    ap (λ (o : Option Content). unwrap_or o []) (copied.ensures.source.quiet refl).1 ∙ sym source in
     let second : content_in (contents_of regs) 2 ≡ c.replace-dest.result.content = second_is regs c.replace-dest.result c.index-regs-1.result c.requires (c.replace-dest.ensures.value ∙ sym c.index-regs-1.is) c.index-regs-1.is in
     record {
-      ended = copied.ensures.ended;
+      ran = copied.ensures.ran;
       finished = copied.ensures.finished;
       contents = on_ok copied.result _ (d.content, second_changed regs none s d c.requires same);
-      wrote = on_ok copied.result _ copied.ensures.wrote;
       promised = λ place o. on_ok copied.result _ (λ placed promise.
           subst (λ (held : Content). Promise place o copied.new.log.newest held) (sym (second_put regs none s d c.requires))
           (copied.ensures.promised place o placed (refl, subst (λ (held : Content). Promise place o c.args.log.now.newest held) second promise)).1);

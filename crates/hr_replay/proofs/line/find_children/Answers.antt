@@ -2,7 +2,7 @@ use Rattle.std.proofs.Common.{◌≡◌, ◌+◌, drop, List, Err, ap, sym, subs
 use Rattle.hr_manifest.specs.declared.child.Child.{Child}
 use Rattle.hr_replay.specs.Opening.{children_of}
 use Rattle.hr_replay.specs.declared.line.LineRefused.TheVariants.{Reference}
-use Rattle.hr_replay.proofs.StoreLemmas.{behind, behind_nothing, child_found, child_lacks, children_found}
+use Rattle.hr_replay.proofs.StoreLemmas.{behind, child_found, child_lacks, children_found}
 use Rattle.hr_replay.proofs.line.find_children.Goals as goal
 
 pub loop-tag-preserved : goal.loop-tag-preserved
@@ -25,5 +25,5 @@ returns-in-Err c = record {
   reference = λ e.
       let same : c.in-Err.refused ≡ Reference = cc e in
       ap (children_of c.args.registry.now.content c.args.repo.now) (sym c.view-tag-items.ensures)
-          ∙ child_lacks c.args.registry.now.content c.args.repo.now c.view-tag-items.result.now c.loop-tag.tag-index c.loop-tag.children c.tag-item.result c.loop-tag.invariant c.loop-tag-test.true c.tag-item.is (c.in-Err.ensures.reference (ap Err same));
+      ∙ child_lacks c.args.registry.now.content c.args.repo.now c.view-tag-items.result.now c.loop-tag.tag-index c.loop-tag.children c.tag-item.result c.loop-tag.invariant c.loop-tag-test.true c.tag-item.is (c.in-Err.ensures.reference (ap Err same));
 }

@@ -1,6 +1,6 @@
 use Rattle.std.proofs.Common.{◌≡◌, ◌≤◌, ◌+◌, ◌-◌, length}
 use Rattle.hr_cause.specs.Stream.{Gave}
-use Rattle.hr_top.specs.Script.{script_limit}
+use Rattle.hr_top.specs.Input.{script_limit}
 use Rattle.hr_top.proofs.input.read_pieces.Given as goal
 
 -- the bytes came from the front of the input, at most one more than a script may have
