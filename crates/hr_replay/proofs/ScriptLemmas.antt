@@ -34,6 +34,7 @@ replayed text lines opens events kept said status reading whole opened goes run 
       state = run.state;
       runs = run.runs;
       holds = script_holds text opens events events said run.state script run.runs;
+      always = λ front behind answers mid split runs. script_holds text opens events front answers mid script runs;
       keeps = run.keeps;
       ends = run.ends;
     }

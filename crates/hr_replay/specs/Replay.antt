@@ -1,5 +1,5 @@
 -- What running a script gives. (Our own.)
-use Rattle.std.specs.Prelude.{◌≡◌, ◌⊎◌, ℕ, List, [], ◌∷◌, map, reverse}
+use Rattle.std.specs.Prelude.{◌≡◌, ◌⊎◌, ℕ, List, [], ◌∷◌, ◌++◌, map, reverse}
 use Rattle.hr_event.specs.declared.event.Event.{Event}
 use Rattle.hr_adapter.specs.Content.{Honest}
 use Rattle.hr_copy.specs.Going.{AreFound}
@@ -36,8 +36,9 @@ pub record IsRun (opens : Contents) (events : List Event) (kept : Ending) (said 
   pub keeps : IsKept state kept
   pub ends : HasStatus state status
 
--- the text is a script; its events were run one after the other, with these answers, and the
--- promise holds at the end, as after each of them
+-- the text is a script, whose registries open with everything under its own digest; its events
+-- were run one after the other, with these answers; and the promise holds at the end, as after each
+-- front of the events
 pub record IsReplayed (text : List ℕ) (kept : Ending) (said : List ℕ) (status : ℕ) : Type 0 where
   pub opens : Contents
   pub events : List Event
@@ -46,5 +47,8 @@ pub record IsReplayed (text : List ℕ) (kept : Ending) (said : List ℕ) (statu
   pub state : State
   pub runs : Runs (opening opens) events said state
   pub holds : Holds (opening opens) state
+  pub always : (front behind : List Event) (answers : List ℕ) (mid : State)
+      → events ≡ front ++ behind → Runs (opening opens) front answers mid
+      → Holds (opening opens) mid
   pub keeps : IsKept state kept
   pub ends : HasStatus state status

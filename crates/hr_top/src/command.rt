@@ -26,11 +26,11 @@ use std::alloc::Global;
 /// | 2 | the input is no script: its first bad line is sent, 0 where it is too long |
 /// | 3 | the input failed |
 /// | 4 | the sink failed: a front of the text was sent |
-/// | 5 | want of memory |
+/// | 5 | want of memory, but inside a task, which then ends with an error |
 /// | 7 | the script was run, and an execution did not succeed |
 ///
 /// Where several hold, the first of 5, 4, 3, 1, 2, 7 is answered. With any status but 0, 4 and 7
-/// nothing was run. `kept` has to be empty before the call.
+/// nothing is kept. `kept` has to be empty before the call.
 pub fn top<S: Source, K: Sink>(
     alloc: Global,
     words: &[Bytes],
@@ -71,7 +71,7 @@ pub fn top<S: Source, K: Sink>(
         (S.faults input.old) (S.faults input.new) kept.new)
         (K.sent out.old) (K.sent out.new) }
 
-    // 5: there was no room, and nothing was run.
+    // 5: there was no room, and nothing is kept.
     ensures memory { result ≡ 5
         → IsNothing kept.new × TookFront (K.sent out.old) memory_text (K.sent out.new) }
 
