@@ -104,7 +104,7 @@ each_finished_on {P} turn older newer tags wrote done =
     (λ tag. finished_on {P = P} turn older newer tag wrote) tags done
 
 -- the tag was put, or showed what it is to show, or is kept
-pub finished_now : (turn : Turn) (older newer : List Entry) (tag : List ℕ) (d : Digest) (old : Option Digest) (how : How)
+finished_now : (turn : Turn) (older newer : List Entry) (tag : List ℕ) (d : Digest) (old : Option Digest) (how : How)
     → newer ≡ entry_of turn (Show tag d old how) ∷ older → (how ≡ Unsure → ⊥) → IsFinished turn newer tag
 finished_now turn older newer tag d old how is sure = record {
   digest = d;
@@ -114,6 +114,12 @@ finished_now turn older newer tag d old how is sure = record {
       (contains_first (entry_of turn (Show tag d old how)) older);
   sure = sure;
 }
+
+-- so where the tag of the entry is an equal one
+pub finished_shown : (turn : Turn) (older newer : List Entry) (tag shown : List ℕ) (d : Digest) (old : Option Digest) (how : How)
+    → newer ≡ entry_of turn (Show shown d old how) ∷ older → shown ≡ tag → (how ≡ Unsure → ⊥) → IsFinished turn newer tag
+finished_shown turn older newer tag shown d old how is same sure =
+    finished_now turn older newer tag d old how (is ∙ ap (λ t. entry_of turn (Show t d old how) ∷ older) same) sure
 
 pub wrote_from : {P : What → Type 0} (turn : Turn) (older same newer : List Entry) → same ≡ older
     → Wrote P turn same newer → Wrote P turn older newer

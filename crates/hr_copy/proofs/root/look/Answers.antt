@@ -5,7 +5,7 @@ use Rattle.hr_copy.proofs.DecidesLemmas.{decided_step, decided_sure, looked_step
 use Rattle.hr_copy.proofs.GoingLemmas.{looked_promised, promised_untouched}
 use Rattle.hr_copy.proofs.LastLemmas.{looked_read}
 use Rattle.hr_copy.proofs.ShowLemmas.{left_promised}
-use Rattle.hr_copy.proofs.WroteLemmas.{finished_now, wrote_one, wrote_two}
+use Rattle.hr_copy.proofs.WroteLemmas.{finished_shown, wrote_one, wrote_two}
 use Rattle.hr_copy.proofs.root.look.Goals as goal
 
 pub returns-in_default-clause-wrote : goal.returns-in_default-clause-wrote
@@ -27,7 +27,7 @@ pub returns-clause-wrote : goal.returns-clause-wrote
 returns-clause-wrote g c =
     wrote_two c.args.turn.now c.args.log.now.newest c.write.new.self.newest _ _ _ c.write.ensures.written c.write-2.ensures.written
     (looked_step c.args.spec.now c.args.tag.now c.in_ok-looked.looked c.in_ok-old.old c.requires.within c.in_ok-looked.ensures)
-    (decided_step c.args.spec.now c.in-Some.how c.args.tag.now c.in_ok-shown.shown c.args.digest c.in_ok-old.old c.requires.within
+    (decided_step c.args.spec.now c.in-Some.how c.args.tag.now c.in_ok-shown.shown _ c.in_ok-old.old c.requires.within
     c.in_ok-shown.ensures ((c.in-Some.ensures.some c.in-Some.how).0 refl).1)
 
 pub returns-clause-promised : goal.returns-clause-promised
@@ -45,7 +45,6 @@ returns-clause-promised g c = λ to o placed read promised.
 
 pub returns-clause-finished : goal.returns-clause-finished
 returns-clause-finished g c =
-    finished_now c.args.turn.now c.write.new.self.newest c.write-2.new.self.newest c.args.tag.now c.args.digest c.in_ok-old.old c.in-Some.how
-    (c.write-2.ensures.written ∙ ap (λ t. entry_of c.args.turn.now (Show t c.args.digest c.in_ok-old.old c.in-Some.how)
-    ∷ c.write.new.self.newest) c.in_ok-shown.ensures)
+    finished_shown c.args.turn.now c.write.new.self.newest c.write-2.new.self.newest c.args.tag.now c.in_ok-shown.shown _
+    c.in_ok-old.old c.in-Some.how c.write-2.ensures.written c.in_ok-shown.ensures
     (decided_sure c.in-Some.how ((c.in-Some.ensures.some c.in-Some.how).0 refl).0)

@@ -7,7 +7,7 @@ use Rattle.hr_copy.proofs.CallLemmas.{on_ok_by}
 use Rattle.hr_copy.proofs.DecidesLemmas.{decided_step}
 use Rattle.hr_copy.proofs.GoingLemmas.{going_left, going_promised}
 use Rattle.hr_copy.proofs.ShowLemmas.{shown_promised}
-use Rattle.hr_copy.proofs.WroteLemmas.{finished_now, wrote_one}
+use Rattle.hr_copy.proofs.WroteLemmas.{finished_shown, wrote_one}
 use Rattle.hr_copy.proofs.root.show.Goals as goal
 
 pub returns-clause-promised : goal.returns-clause-promised
@@ -24,9 +24,8 @@ returns-clause-promised g c = λ to o placed.
 pub returns-clause-finished : goal.returns-clause-finished
 returns-clause-finished g c =
     on_ok_by c.settle-how.result.1 c.settle-how.ensures.ok
-    (finished_now c.args.turn.now c.args.log.now.newest c.write.new.self.newest c.args.tag.now c.args.digest c.in_ok-old.old c.settle-how.result.0
-    (c.write.ensures.written ∙ ap (λ t. entry_of c.args.turn.now (Show t c.args.digest c.in_ok-old.old c.settle-how.result.0)
-    ∷ c.args.log.now.newest) c.in_ok-shown.ensures))
+    (finished_shown c.args.turn.now c.args.log.now.newest c.write.new.self.newest c.args.tag.now c.in_ok-shown.shown c.args.digest
+    c.in_ok-old.old c.settle-how.result.0 c.write.ensures.written c.in_ok-shown.ensures)
 
 pub returns-clause-wrote : goal.returns-clause-wrote
 returns-clause-wrote g c = wrote_one c.args.turn.now c.args.log.now.newest _ _ c.write.ensures.written
