@@ -4,19 +4,8 @@
 # digests equal.
 # Usage: sh bench/check.sh
 set -eu
-top=$(cd "$(dirname "$0")/.." && pwd)
-scratch=$(mktemp -d)
-trap 'rm -rf "$scratch"' EXIT
-mkdir -p "$scratch/crates/timing/src"
-for crate in hr_base hr_digest; do
-    mkdir -p "$scratch/crates/$crate"
-    for part in src specs proofs; do
-        if [ -d "$top/crates/$crate/$part" ]; then
-            cp -R "$top/crates/$crate/$part" "$scratch/crates/$crate/"
-        fi
-    done
-done
-printf 'hr_base:\nhr_digest: hr_base hex sha2\ntiming: anyhow hr_base hr_digest sha2\n' >"$scratch/crates.txt"
+. "$(dirname "$0")/scratch.sh"
+with_crates "anyhow hr_base hr_digest sha2" hr_base hr_digest
 cat >"$scratch/crates/timing/src/main.rt" <<'RATTLE'
 //! Times a check and the hasher under it.
 #![tactic(auto)]

@@ -4,20 +4,8 @@
 # time must grow as the length: MB/s stay level from a quarter to the whole. The least of five runs
 # counts. Usage: sh bench/manifest.sh
 set -eu
-top=$(cd "$(dirname "$0")/.." && pwd)
-scratch=$(mktemp -d)
-trap 'rm -rf "$scratch"' EXIT
-mkdir -p "$scratch/crates/timing/src"
-for crate in hr_base hr_digest hr_json hr_manifest; do
-    mkdir -p "$scratch/crates/$crate"
-    for part in src specs proofs; do
-        if [ -d "$top/crates/$crate/$part" ]; then
-            cp -R "$top/crates/$crate/$part" "$scratch/crates/$crate/"
-        fi
-    done
-    grep "^$crate:" "$top/crates.txt" >>"$scratch/crates.txt"
-done
-printf 'timing: anyhow hr_base hr_manifest\n' >>"$scratch/crates.txt"
+. "$(dirname "$0")/scratch.sh"
+with_crates "anyhow hr_base hr_manifest" hr_base hr_digest hr_json hr_manifest
 cat >"$scratch/crates/timing/src/main.rt" <<'RATTLE'
 //! Times readings of the manifests that the input has, one a line behind its media type.
 #![tactic(auto)]

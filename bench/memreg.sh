@@ -3,20 +3,8 @@
 # to be listed. The time for each tag must grow as a logarithm at most: from 4,096 to 65,536 tags it
 # may rise by a third, and not double. Usage: sh bench/memreg.sh
 set -eu
-top=$(cd "$(dirname "$0")/.." && pwd)
-scratch=$(mktemp -d)
-trap 'rm -rf "$scratch"' EXIT
-mkdir -p "$scratch/crates/timing/src"
-for crate in hr_base hr_cause hr_digest hr_name hr_event hr_adapter hr_memreg; do
-    mkdir -p "$scratch/crates/$crate"
-    for part in src specs proofs; do
-        if [ -d "$top/crates/$crate/$part" ]; then
-            cp -R "$top/crates/$crate/$part" "$scratch/crates/$crate/"
-        fi
-    done
-done
-grep -E '^hr_(base|cause|digest|name|event|adapter|memreg):' "$top/crates.txt" >"$scratch/crates.txt"
-printf 'timing: anyhow hr_adapter hr_base hr_digest hr_memreg hr_name\n' >>"$scratch/crates.txt"
+. "$(dirname "$0")/scratch.sh"
+with_crates "anyhow hr_adapter hr_base hr_digest hr_memreg hr_name" hr_base hr_cause hr_digest hr_name hr_event hr_adapter hr_memreg
 cat >"$scratch/crates/timing/src/main.rt" <<'RATTLE'
 //! Times tags that are put in one repository, and listed.
 #![tactic(auto)]

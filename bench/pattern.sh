@@ -3,19 +3,8 @@
 # lengths at most: the column of picoseconds for each pair of a pattern's byte and a text's byte
 # stays level or falls in each block. Usage: sh bench/pattern.sh
 set -eu
-top=$(cd "$(dirname "$0")/.." && pwd)
-scratch=$(mktemp -d)
-trap 'rm -rf "$scratch"' EXIT
-mkdir -p "$scratch/crates/timing/src"
-for crate in hr_base hr_pattern; do
-    mkdir -p "$scratch/crates/$crate"
-    for part in src specs proofs; do
-        if [ -d "$top/crates/$crate/$part" ]; then
-            cp -R "$top/crates/$crate/$part" "$scratch/crates/$crate/"
-        fi
-    done
-done
-printf 'hr_base:\nhr_pattern: hr_base\ntiming: anyhow hr_pattern\n' >"$scratch/crates.txt"
+. "$(dirname "$0")/scratch.sh"
+with_crates "anyhow hr_pattern" hr_base hr_pattern
 cat >"$scratch/crates/timing/src/main.rt" <<'RATTLE'
 //! Times looks at hostile patterns and texts.
 #![tactic(auto)]

@@ -4,20 +4,8 @@
 # at most: the column of nanoseconds for each pair stays level. The last row is a graph of too many
 # pairs, which is refused. Usage: sh bench/walk.sh
 set -eu
-top=$(cd "$(dirname "$0")/.." && pwd)
-scratch=$(mktemp -d)
-trap 'rm -rf "$scratch"' EXIT
-mkdir -p "$scratch/crates/timing/src"
-for crate in hr_base hr_digest hr_json hr_manifest hr_graph; do
-    mkdir -p "$scratch/crates/$crate"
-    for part in src specs proofs; do
-        if [ -d "$top/crates/$crate/$part" ]; then
-            cp -R "$top/crates/$crate/$part" "$scratch/crates/$crate/"
-        fi
-    done
-    grep "^$crate:" "$top/crates.txt" >>"$scratch/crates.txt"
-done
-printf 'timing: anyhow hr_base hr_digest hr_graph hr_manifest\n' >>"$scratch/crates.txt"
+. "$(dirname "$0")/scratch.sh"
+with_crates "anyhow hr_base hr_digest hr_graph hr_manifest" hr_base hr_digest hr_json hr_manifest hr_graph
 cat >"$scratch/crates/timing/src/main.rt" <<'RATTLE'
 //! Times walks over indexes of images.
 #![tactic(auto)]
