@@ -1,7 +1,8 @@
 //! What happened in copies, in words that tests compare.
 
 use hr_base::{Memory, Status};
-use hr_event::{Entry, How, What};
+use hr_digest::Digest;
+use hr_event::{Cause, Entry, How, Reference, What};
 use std::alloc::Global;
 
 /// A journal in words, a line for each revision that ended. A tag stands behind its `read`.
@@ -53,4 +54,47 @@ fn end_of(status: Status) -> &'static [u8] {
         Status::Success => b"success\n",
         _ => b"error\n",
     }
+}
+
+/// The cause that an entry tells, in words.
+pub fn cause(alloc: Global, what: &What) -> Result<Option<Vec<u8>>, Memory> {
+    match what {
+        What::Ended {
+            cause: Some(cause),
+            ..
+        } => Ok(Some(words_of(alloc, cause)?)),
+        _ => Ok(None),
+    }
+}
+
+fn words_of(alloc: Global, cause: &Cause) -> Result<Vec<u8>, Memory> {
+    match cause {
+        Cause::Gone {
+            reference: Reference::Digest(digest),
+        } => about(alloc, b"gone ", digest),
+        Cause::Gone { .. } => Ok(b"gone".to_vec(alloc)?),
+        Cause::Unreadable { digest } => about(alloc, b"unreadable ", digest),
+        Cause::TooDeep { digest } => about(alloc, b"deep ", digest),
+        Cause::SizeDiffers { digest, said, got } => sizes(alloc, digest, *said, *got),
+        Cause::TooMany { count } => Ok(format!(in alloc; "many {count}")?.into_bytes()),
+        Cause::TooLong { len } => Ok(format!(in alloc; "long {len}")?.into_bytes()),
+        Cause::Fault { .. } => Ok(b"fault".to_vec(alloc)?),
+        Cause::Differs { .. } => Ok(b"differs".to_vec(alloc)?),
+        Cause::Memory => Ok(b"memory".to_vec(alloc)?),
+    }
+}
+
+// A word and a digest.
+fn about(alloc: Global, word: &[u8], digest: &Digest) -> Result<Vec<u8>, Memory> {
+    let mut text = word.to_vec(alloc)?;
+    text.extend_from_slice(digest.text(alloc)?.view())?;
+    Ok(text)
+}
+
+// The size that a descriptor says of a digest, and its length.
+fn sizes(alloc: Global, digest: &Digest, said: u64, got: u64) -> Result<Vec<u8>, Memory> {
+    let mut text = about(alloc, b"size ", digest)?;
+    let numbers = format!(in alloc; " {said} {got}")?;
+    text.extend_from_slice(numbers.as_bytes())?;
+    Ok(text)
 }
