@@ -1,4 +1,5 @@
 pub mod Calls
+pub mod Evidence
 pub mod Going
 pub mod Journal
 pub mod Outcome

@@ -1,10 +1,11 @@
 //! Blobs: each is looked for at the destination, and copied where it isn't there. (OCI Distribution
 //! 1.1, "Pulling blobs" and "Pushing blobs".)
-ghost use Rattle.std.specs.Prelude.{◌≡◌, ◌≤◌, ◌<◌, ◌∷◌, ℕ, List, IfOk, IfSome, OnErr, OnOk, IsTrue, Result, is_ok, length, option_map};
+ghost use Rattle.std.specs.Prelude.{◌≡◌, ◌≤◌, ◌<◌, ◌∷◌, ℕ, List, IfOk, IfSome, OnErr, OnOk, IsTrue, Result, is_ok, length, option_map, IfErr};
 ghost use Rattle.hr_digest.specs.Digest.{digest_of};
 ghost use Rattle.hr_event.specs.declared.entry.What.TheVariants.{GotBlob, HasBlob, PutBlob};
 ghost use Rattle.hr_adapter.specs.Content.{Content, blob_at, with_blob};
 ghost use Rattle.hr_adapter.specs.Reg.{Reg};
+ghost use Rattle.hr_copy.specs.Evidence.{Evidence};
 ghost use Rattle.hr_copy.specs.Calls.{Changed, MaybeChanged, Untouched};
 ghost use Rattle.hr_copy.specs.Going.{GoesOn, Going, Promised};
 ghost use Rattle.hr_copy.specs.Outcome.{IsSilent, IsStep, Wrote, entry_of};
@@ -35,6 +36,7 @@ pub(crate) fn find_blob<D: Registry>(
     ensures wrote { Wrote (IsSilent spec.now) turn.now log.old.newest log.new.newest }
     ensures dest { Untouched (D.seen dest.old) (D.seen dest.new) }
     ensures room { 1 ≤ log.new.room }
+    ensures caused { (source : Reg) → IfErr result (λ cause. Evidence cause spec.now source (D.seen dest.new)) }
 {
     walk.is_sound();
     let len = ask_blob(dest, log, turn, spec, digest)?;
@@ -60,6 +62,7 @@ fn ask_blob<D: Registry>(
     ensures err { OnErr result (log.new.newest ≡ log.old.newest) }
     ensures dest { Untouched (D.seen dest.old) (D.seen dest.new) }
     ensures room { 1 ≤ log.new.room }
+    ensures caused { (source : Reg) → IfErr result (λ cause. Evidence cause spec.now source (D.seen dest.new)) }
 {
     let before = dest.count();
     let len = match dest.has_blob(&spec.to, &digest) {
@@ -99,6 +102,8 @@ pub(crate) fn copy_blob<S: Registry, D: Registry>(
     ensures wrote { Wrote (IsStep spec.now) turn.now log.old.newest log.new.newest }
     ensures source { Untouched (S.seen source.old) (S.seen source.new) }
     ensures room { 1 ≤ log.new.room }
+    ensures caused { IfErr result
+        (λ cause. Evidence cause spec.now (S.seen source.new) (D.seen dest.new)) }
 {
     walk.is_sound();
     let bytes = read_blob(source, log, turn, spec, digest)?;
@@ -128,6 +133,7 @@ fn read_blob<S: Registry>(
     ensures err { OnErr result (log.new.newest ≡ log.old.newest) }
     ensures source { Untouched (S.seen source.old) (S.seen source.new) }
     ensures room { 2 ≤ log.new.room }
+    ensures caused { (dest : Reg) → IfErr result (λ cause. Evidence cause spec.now (S.seen source.new) dest) }
 {
     let before = source.count();
     let bytes = match source.blob(&spec.from, &digest) {
@@ -172,6 +178,7 @@ fn put_blob<D: Registry>(
     ensures wrote { log.new.newest
         ≡ entry_of turn.now (PutBlob digest (is_ok result)) ∷ log.old.newest }
     ensures room { 1 ≤ log.new.room }
+    ensures caused { (source : Reg) → IfErr result (λ cause. Evidence cause spec.now source (D.seen dest.new)) }
 {
     let before = dest.count();
     let put = dest.put_blob(&spec.to, &digest, bytes.view());

@@ -1,5 +1,9 @@
 //! Why a copy ends with an error. (Our own.)
-ghost use Rattle.std.specs.Prelude.{◌≡◌};
+ghost use Rattle.std.specs.Prelude.{◌≡◌, ◌⊎◌};
+ghost use Rattle.hr_cause.specs.Stream.{Rose};
+ghost use Rattle.hr_event.specs.declared.task.TaskSpec.{TaskSpec};
+ghost use Rattle.hr_adapter.specs.Reg.{Reg};
+ghost use Rattle.hr_copy.specs.Evidence.{Evidence};
 
 use hr_adapter::RegFault;
 use hr_base::RegNo;
@@ -9,7 +13,11 @@ use hr_graph::WalkRefused;
 use hr_manifest::Unreadable;
 
 /// The cause of a registry that gave no answer, with its count of faults before and after.
-pub(crate) fn of_fault(fault: RegFault, reg: RegNo, before: u64, after: u64) -> Cause {
+pub(crate) fn of_fault(fault: RegFault, reg: RegNo, before: u64, after: u64) -> Cause
+    ensures { (spec : TaskSpec) (source dest : Reg) → (fault ≡ RegFault.Failed → Rose before after)
+        → (((reg ≡ spec.src) × (after ≡ source.faults)) ⊎ ((reg ≡ spec.dst) × (after ≡ dest.faults)))
+        → Evidence result spec source dest }
+{
     match fault {
         RegFault::Failed => Cause::Fault { reg, before, after },
         RegFault::TooLong { len } => Cause::TooLong { len },
@@ -18,7 +26,9 @@ pub(crate) fn of_fault(fault: RegFault, reg: RegNo, before: u64, after: u64) -> 
 }
 
 /// The cause of a manifest with that digest that is not read.
-pub(crate) fn of_manifest(why: Unreadable, digest: Digest) -> Cause {
+pub(crate) fn of_manifest(why: Unreadable, digest: Digest) -> Cause
+    ensures { (spec : TaskSpec) (source dest : Reg) → Evidence result spec source dest }
+{
     match why {
         Unreadable::TooLong { len } => Cause::TooLong { len },
         Unreadable::Media | Unreadable::NotJson | Unreadable::Field { .. } => {
@@ -30,7 +40,9 @@ pub(crate) fn of_manifest(why: Unreadable, digest: Digest) -> Cause {
 }
 
 /// The cause of a walk that goes no further.
-pub(crate) fn of_walk(why: WalkRefused) -> Cause {
+pub(crate) fn of_walk(why: WalkRefused) -> Cause
+    ensures { (spec : TaskSpec) (source dest : Reg) → Evidence result spec source dest }
+{
     match why {
         WalkRefused::TooDeep { digest } => Cause::TooDeep { digest },
         WalkRefused::TooMany { count } => Cause::TooMany { count },

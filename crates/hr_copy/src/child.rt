@@ -1,10 +1,11 @@
 //! Child manifests: each is read at the source, and put at the destination once all that it lists
 //! is there. (OCI Distribution 1.1, "Pulling manifests" and "Pushing Manifests".)
-ghost use Rattle.std.specs.Prelude.{◌≡◌, ◌≢◌, ◌≤◌, ◌<◌, ◌∷◌, ℕ, List, IfOk, OnErr, OnOk, is_ok};
+ghost use Rattle.std.specs.Prelude.{◌≡◌, ◌≢◌, ◌≤◌, ◌<◌, ◌∷◌, ℕ, List, IfOk, OnErr, OnOk, is_ok, IfErr};
 ghost use Rattle.hr_digest.specs.Digest.{digest_of};
 ghost use Rattle.hr_event.specs.declared.entry.What.TheVariants.{PutChild, ReadChild};
 ghost use Rattle.hr_adapter.specs.Content.{Content, with_manifest};
 ghost use Rattle.hr_adapter.specs.Reg.{Reg};
+ghost use Rattle.hr_copy.specs.Evidence.{Evidence};
 ghost use Rattle.hr_copy.specs.Calls.{Changed, MaybeChanged, Untouched};
 ghost use Rattle.hr_copy.specs.Going.{GoesOn, Going, IsReadable, Promised, stored_of};
 ghost use Rattle.hr_copy.specs.Outcome.{IsSilent, IsStep, Wrote, entry_of};
@@ -37,6 +38,7 @@ pub(crate) fn take_child<S: Registry>(
     ensures wrote { Wrote (IsSilent spec.now) turn.now log.old.newest log.new.newest }
     ensures source { Untouched (S.seen source.old) (S.seen source.new) }
     ensures room { 1 ≤ log.new.room }
+    ensures caused { (dest : Reg) → IfErr result (λ cause. Evidence cause spec.now (S.seen source.new) dest) }
 {
     walk.is_sound();
     let manifest = read_child(alloc, source, log, turn, spec, digest)?;
@@ -63,6 +65,7 @@ fn read_child<S: Registry>(
     ensures wrote { Wrote (IsSilent spec.now) turn.now log.old.newest log.new.newest }
     ensures source { Untouched (S.seen source.old) (S.seen source.new) }
     ensures room { 1 ≤ log.new.room }
+    ensures caused { (dest : Reg) → IfErr result (λ cause. Evidence cause spec.now (S.seen source.new) dest) }
 {
     let fetched = fetch_child(source, spec, digest)?;
     let read = Manifest::read(alloc, fetched.media.view(), fetched.bytes.view());
@@ -92,6 +95,7 @@ fn fetch_child<S: Registry>(
 ) -> Result<Fetched, Cause>
     ensures own { IfOk result (λ fetched. digest_of fetched.bytes ≡ digest) }
     ensures source { Untouched (S.seen source.old) (S.seen source.new) }
+    ensures caused { (dest : Reg) → IfErr result (λ cause. Evidence cause spec.now (S.seen source.new) dest) }
 {
     let before = source.count();
     let reference = Reference::Digest(digest);
@@ -130,6 +134,7 @@ pub(crate) fn put_child<D: Registry>(
     ensures walk { OnOk result (GoesOn walk.old walk.new) }
     ensures wrote { Wrote (IsStep spec.now) turn.now log.old.newest log.new.newest }
     ensures room { 1 ≤ log.new.room }
+    ensures caused { (source : Reg) → IfErr result (λ cause. Evidence cause spec.now source (D.seen dest.new)) }
 {
     walk.is_sound();
     let Some(manifest) = walk.putting() else {
@@ -162,6 +167,7 @@ fn put_manifest<D: Registry>(
     ensures wrote { log.new.newest
         ≡ entry_of turn.now (PutChild digest (is_ok result)) ∷ log.old.newest }
     ensures room { 1 ≤ log.new.room }
+    ensures caused { (source : Reg) → IfErr result (λ cause. Evidence cause spec.now source (D.seen dest.new)) }
 {
     let before = dest.count();
     manifest.is_read();

@@ -1,14 +1,16 @@
 //! The manifest of a tag: it is read at the source, and shown at the destination under the tag once
 //! its whole graph is there. (OCI Distribution 1.1, "Pulling manifests" and "Pushing Manifests".)
-ghost use Rattle.std.specs.Prelude.{◌≡◌, ◌≤◌, ◌∷◌, ◌↔◌, ℕ, List, Contains, IfOk, IfSome, OnErr, OnOk, None, Some, ◌≢◌};
+ghost use Rattle.std.specs.Prelude.{◌≡◌, ◌≤◌, ◌∷◌, ◌↔◌, ℕ, List, Contains, IfOk, IfSome, OnErr, OnOk, None, Some, ◌≢◌, IfErr};
 ghost use Rattle.std.specs.Bool.{OnTrue};
 ghost use Rattle.hr_digest.specs.Digest.{digest_of};
 ghost use Rattle.hr_event.specs.declared.entry.How.{How};
 ghost use Rattle.hr_event.specs.declared.entry.What.TheVariants.{ReadTag};
 ghost use Rattle.hr_event.specs.declared.reference.Reference.TheVariants as by;
+ghost use Rattle.hr_event.specs.declared.task.TaskSpec.{TaskSpec};
 ghost use Rattle.hr_adapter.specs.Content.{Content, fetch_at, head_at};
-ghost use Rattle.hr_adapter.specs.Reg.{IsSound};
+ghost use Rattle.hr_adapter.specs.Reg.{IsSound, Reg};
 ghost use Rattle.hr_journal.specs.Still.{IsStill};
+ghost use Rattle.hr_copy.specs.Evidence.{Evidence};
 ghost use Rattle.hr_copy.specs.Calls.{IsDecided, ShowsBy, Untouched};
 ghost use Rattle.hr_copy.specs.Going.{Found, Going, IsReadable, LastRead, Promised, Sourced};
 ghost use Rattle.hr_copy.specs.Outcome.{Decides, IsFinished, IsStep, Obeys, Wrote, entry_of};
@@ -48,6 +50,7 @@ pub(crate) fn read_root<S: Registry>(
         → Sourced from log.old.newest (S.seen source.old)
         → Sourced from log.new.newest (S.seen source.new) }
     ensures room { 1 ≤ log.new.room }
+    ensures caused { (dest : Reg) → IfErr result (λ cause. Evidence cause spec.now (S.seen source.new) dest) }
 {
     let kept = copied(alloc, tag)?;
     let fetched = fetch_root(alloc, source, spec, tag)?;
@@ -82,6 +85,7 @@ fn fetch_root<S: Registry>(
         (λ c. Some fetched ≡ fetch_at c spec.now.from (by.Tag tag.now))) }
     ensures source { Untouched (S.seen source.old) (S.seen source.new) }
     ensures sound { OnOk result (IsSound (S.seen source.new)) }
+    ensures caused { (dest : Reg) → IfErr result (λ cause. Evidence cause spec.now (S.seen source.new) dest) }
 {
     let named = copied(alloc, tag)?;
     let reference = Reference::Tag(named);
@@ -97,7 +101,9 @@ fn fetch_root<S: Registry>(
 
 // An equal tag.
 fn copied(alloc: Global, tag: &Tag) -> Result<Tag, Cause>
-    ensures { IfOk result (λ made. made ≡ tag.now) }
+    ensures ok { IfOk result (λ made. made ≡ tag.now) }
+    ensures caused { (spec : TaskSpec) (source dest : Reg)
+        → IfErr result (λ cause. Evidence cause spec source dest) }
 {
     match tag.copy(alloc) {
         Ok(made) => Ok(made),
@@ -127,6 +133,7 @@ pub(crate) fn look<D: Registry>(
     ensures wrote { Wrote (IsStep spec.now) turn.now log.old.newest log.new.newest }
     ensures dest { Untouched (D.seen dest.old) (D.seen dest.new) }
     ensures room { 1 ≤ log.new.room }
+    ensures caused { (source : Reg) → IfErr result (λ cause. Evidence cause spec.now source (D.seen dest.new)) }
 {
     let looked = copied(alloc, tag)?;
     let shown = copied(alloc, tag)?;
@@ -176,6 +183,7 @@ pub(crate) fn show<D: Registry>(
     ensures finished { OnOk result (IsFinished turn.now log.new.newest tag.now) }
     ensures wrote { Wrote (IsStep spec.now) turn.now log.old.newest log.new.newest }
     ensures room { 1 ≤ log.new.room }
+    ensures caused { (source : Reg) → IfErr result (λ cause. Evidence cause spec.now source (D.seen dest.new)) }
 {
     walk.is_sound();
     let named = copied(alloc, tag)?;
@@ -221,6 +229,7 @@ fn find<D: Registry>(
     ensures told { IfOk result (λ found. IfSome (D.seen dest.new).told
         (λ c. found ≡ head_at c spec.now.to (by.Tag tag.now))) }
     ensures dest { Untouched (D.seen dest.old) (D.seen dest.new) }
+    ensures caused { (source : Reg) → IfErr result (λ cause. Evidence cause spec.now source (D.seen dest.new)) }
 {
     let named = copied(alloc, tag)?;
     let before = dest.count();
@@ -245,6 +254,7 @@ fn settle<D: Registry>(
     ensures decides { Decides spec.now.override_it digest old result.0 }
     ensures ok { OnOk result.1 (result.0 ≢ How.Unsure) }
     ensures err { OnErr result.1 (result.0 ≡ How.Unsure) }
+    ensures caused { (source : Reg) → IfErr result.1 (λ cause. Evidence cause spec.now source (D.seen dest.new)) }
 {
     match decided(old, digest, spec.override_it) {
         Some(how) => (how, Ok(())),
@@ -264,6 +274,7 @@ fn put_root<D: Registry>(
         (D.seen dest.old) (D.seen dest.new) }
     ensures ok { OnOk result.1 (result.0 ≡ How.Put) }
     ensures err { OnErr result.1 (result.0 ≡ How.Unsure) }
+    ensures caused { (source : Reg) → IfErr result.1 (λ cause. Evidence cause spec.now source (D.seen dest.new)) }
 {
     let before = dest.count();
     manifest.is_read();

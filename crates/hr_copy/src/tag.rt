@@ -1,10 +1,11 @@
 //! One tag: its manifest is read, all below it is copied, each thing before what lists it, and then
 //! the tag is shown. (Our own.)
-ghost use Rattle.std.specs.Prelude.{◌≡◌, ◌≢◌, ◌≤◌, ℕ, List, Contains, OnErr, OnOk, Some};
+ghost use Rattle.std.specs.Prelude.{◌≡◌, ◌≢◌, ◌≤◌, ℕ, List, Contains, OnErr, OnOk, Some, IfErr};
 ghost use Rattle.std.specs.Bool.{OnTrue, OnFalse};
 ghost use Rattle.hr_digest.specs.Digest.{digest_of};
 ghost use Rattle.hr_adapter.specs.Content.{Content};
 ghost use Rattle.hr_journal.specs.Says.{last, read_under};
+ghost use Rattle.hr_copy.specs.Evidence.{Evidence};
 ghost use Rattle.hr_copy.specs.Calls.{Untouched};
 ghost use Rattle.hr_copy.specs.Going.{Found, GoesOn, Going, IsReadable, Promised, Sourced, stored_of};
 ghost use Rattle.hr_copy.specs.Outcome.{IsFinished, IsStep, Obeys, Wrote};
@@ -47,6 +48,8 @@ pub(crate) fn copy_tag<S: Registry, D: Registry>(
     ensures wrote { Wrote (Obeys spec.now) turn.now log.old.newest log.new.newest }
     ensures source { Untouched (S.seen source.old) (S.seen source.new) }
     ensures room { 1 ≤ log.new.room }
+    ensures caused { IfErr result
+        (λ cause. Evidence cause spec.now (S.seen source.new) (D.seen dest.new)) }
 {
     if log.reserve(4).is_err() {
         return Err(Cause::Memory);
@@ -80,6 +83,8 @@ fn copy_read<S: Registry, D: Registry>(
     ensures wrote { Wrote (IsStep spec.now) turn.now log.old.newest log.new.newest }
     ensures source { Untouched (S.seen source.old) (S.seen source.new) }
     ensures room { 1 ≤ log.new.room }
+    ensures caused { IfErr result
+        (λ cause. Evidence cause spec.now (S.seen source.new) (D.seen dest.new)) }
 {
     if log.reserve(3).is_err() {
         return Err(Cause::Memory);
@@ -118,6 +123,8 @@ fn copy_walk<S: Registry, D: Registry>(
     ensures wrote { Wrote (IsStep spec.now) turn.now log.old.newest log.new.newest }
     ensures source { Untouched (S.seen source.old) (S.seen source.new) }
     ensures room { 1 ≤ log.new.room }
+    ensures caused { IfErr result
+        (λ cause. Evidence cause spec.now (S.seen source.new) (D.seen dest.new)) }
 {
     copy_graph(alloc, source, dest, log, turn, spec, tag, walk, root)?;
     if log.reserve(2).is_err() {
@@ -153,6 +160,8 @@ fn copy_graph<S: Registry, D: Registry>(
     ensures wrote { Wrote (IsStep spec.now) turn.now log.old.newest log.new.newest }
     ensures source { Untouched (S.seen source.old) (S.seen source.new) }
     ensures room { 1 ≤ log.new.room }
+    ensures caused { IfErr result
+        (λ cause. Evidence cause spec.now (S.seen source.new) (D.seen dest.new)) }
 {
     while is_below(walk.need(), root) {
         step(alloc, source, dest, log, turn, spec, tag, walk)?;
@@ -197,6 +206,8 @@ fn step<S: Registry, D: Registry>(
     ensures wrote { Wrote (IsStep spec.now) turn.now log.old.newest log.new.newest }
     ensures source { Untouched (S.seen source.old) (S.seen source.new) }
     ensures room { 1 ≤ log.new.room }
+    ensures caused { IfErr result
+        (λ cause. Evidence cause spec.now (S.seen source.new) (D.seen dest.new)) }
 {
     if log.reserve(3).is_err() {
         return Err(Cause::Memory);
@@ -229,6 +240,8 @@ fn act<S: Registry, D: Registry>(
     ensures wrote { Wrote (IsStep spec.now) turn.now log.old.newest log.new.newest }
     ensures source { Untouched (S.seen source.old) (S.seen source.new) }
     ensures room { 1 ≤ log.new.room }
+    ensures caused { IfErr result
+        (λ cause. Evidence cause spec.now (S.seen source.new) (D.seen dest.new)) }
 {
     match walk.need() {
         Need::Manifest(digest) => take_child(alloc, source, log, turn, spec, walk, digest),

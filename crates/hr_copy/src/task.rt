@@ -4,6 +4,7 @@ ghost use Rattle.std.specs.Prelude.{◌≡◌, ◌≤◌, ℕ, List, IfErr, IfOk
 ghost use Rattle.std.specs.List.{AllByRecursion};
 ghost use Rattle.hr_base.specs.declared.status.Status.TheVariants.{Error, Success};
 ghost use Rattle.hr_adapter.specs.Content.{Content};
+ghost use Rattle.hr_copy.specs.Evidence.{Evidence, NewestIsCaused};
 ghost use Rattle.hr_copy.specs.Calls.{Untouched};
 ghost use Rattle.hr_copy.specs.Going.{Found, Promised, Sourced};
 ghost use Rattle.hr_copy.specs.Outcome.{EndsBy, IsFinished, Obeys, Ran, Wrote};
@@ -31,6 +32,8 @@ pub fn copy_task<S: Registry, D: Registry>(
 ) -> Result<Status, Memory>
     ensures ran { IfOk result
         (λ status. Ran spec.now turn.now status log.old.newest log.new.newest) }
+    ensures caused { OnOk result
+        (NewestIsCaused spec.now (S.seen source.new) (D.seen dest.new) log.new.newest) }
     ensures finished { result ≡ Ok Success
         → AllByRecursion (IsFinished turn.now log.new.newest) spec.now.tags }
     ensures memory { OnErr result (log.new.newest ≡ log.old.newest) }
@@ -97,6 +100,8 @@ fn copy_tags<S: Registry, D: Registry>(
     ensures wrote { Wrote (Obeys spec.now) turn.now log.old.newest log.new.newest }
     ensures source { Untouched (S.seen source.old) (S.seen source.new) }
     ensures room { 1 ≤ log.new.room }
+    ensures caused { IfErr result
+        (λ cause. Evidence cause spec.now (S.seen source.new) (D.seen dest.new)) }
 {
     let tags = spec.tags.view();
     for tag in tags {

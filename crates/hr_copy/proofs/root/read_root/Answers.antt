@@ -22,7 +22,7 @@ returns-in-Ok-clause-found g c = λ from placed.
     c.write.new.self.newest (g.S.Registry.seen c.args.source.now) (g.S.Registry.seen c.fetch_root.new.source) placed
     c.in_ok-fetched.ensures.source c.in_ok-fetched.ensures.told
     (c.write.ensures.written ∙ ap (λ t. entry_of c.args.turn.now (ReadTag t c.in_ok-fetched.fetched.media c.in_ok-fetched.fetched.bytes)
-    ∷ c.args.log.now.newest) c.in_ok-kept.ensures)
+    ∷ c.args.log.now.newest) c.in_ok-kept.ensures.ok)
 
 pub returns-in-Ok-clause-sourced : goal.returns-in-Ok-clause-sourced
 returns-in-Ok-clause-sourced g c = λ from placed.
@@ -30,7 +30,7 @@ returns-in-Ok-clause-sourced g c = λ from placed.
     c.write.new.self.newest (g.S.Registry.seen c.args.source.now) (g.S.Registry.seen c.fetch_root.new.source) placed
     c.in_ok-fetched.ensures.source c.in_ok-fetched.ensures.sound c.in_ok-fetched.ensures.told
     (c.write.ensures.written ∙ ap (λ t. entry_of c.args.turn.now (ReadTag t c.in_ok-fetched.fetched.media c.in_ok-fetched.fetched.bytes)
-    ∷ c.args.log.now.newest) c.in_ok-kept.ensures)
+    ∷ c.args.log.now.newest) c.in_ok-kept.ensures.ok)
 
 pub returns-in-Ok-clause-wrote : goal.returns-in-Ok-clause-wrote
 returns-in-Ok-clause-wrote g c = wrote_one c.args.turn.now c.args.log.now.newest _ _ c.write.ensures.written tt
@@ -41,7 +41,7 @@ returns-in-Err-clause-found g c = λ from placed.
     c.write.new.self.newest (g.S.Registry.seen c.args.source.now) (g.S.Registry.seen c.fetch_root.new.source) placed
     c.in_ok-fetched.ensures.source c.in_ok-fetched.ensures.told
     (c.write.ensures.written ∙ ap (λ t. entry_of c.args.turn.now (ReadTag t c.in_ok-fetched.fetched.media c.in_ok-fetched.fetched.bytes)
-    ∷ c.args.log.now.newest) c.in_ok-kept.ensures)
+    ∷ c.args.log.now.newest) c.in_ok-kept.ensures.ok)
 
 pub returns-in-Err-clause-sourced : goal.returns-in-Err-clause-sourced
 returns-in-Err-clause-sourced g c = λ from placed.
@@ -49,19 +49,19 @@ returns-in-Err-clause-sourced g c = λ from placed.
     c.write.new.self.newest (g.S.Registry.seen c.args.source.now) (g.S.Registry.seen c.fetch_root.new.source) placed
     c.in_ok-fetched.ensures.source c.in_ok-fetched.ensures.sound c.in_ok-fetched.ensures.told
     (c.write.ensures.written ∙ ap (λ t. entry_of c.args.turn.now (ReadTag t c.in_ok-fetched.fetched.media c.in_ok-fetched.fetched.bytes)
-    ∷ c.args.log.now.newest) c.in_ok-kept.ensures)
+    ∷ c.args.log.now.newest) c.in_ok-kept.ensures.ok)
 
 pub returns-in-Ok-clause-obeys : goal.returns-in-Ok-clause-obeys
 returns-in-Ok-clause-obeys g c =
     wrote_one c.args.turn.now c.args.log.now.newest _ _ c.write.ensures.written
     (read_obeys c.args.spec.now c.args.tag.now c.in_ok-kept.kept c.in_ok-fetched.fetched.media c.in_ok-fetched.fetched.bytes
-    c.requires.within c.in_ok-kept.ensures)
+    c.requires.within c.in_ok-kept.ensures.ok)
 
 pub returns-in-Err-clause-obeys : goal.returns-in-Err-clause-obeys
 returns-in-Err-clause-obeys g c =
     wrote_one c.args.turn.now c.args.log.now.newest _ _ c.write.ensures.written
     (read_obeys c.args.spec.now c.args.tag.now c.in_ok-kept.kept c.in_ok-fetched.fetched.media c.in_ok-fetched.fetched.bytes
-    c.requires.within c.in_ok-kept.ensures)
+    c.requires.within c.in_ok-kept.ensures.ok)
 
 pub returns-in-Err-clause-wrote : goal.returns-in-Err-clause-wrote
 returns-in-Err-clause-wrote g c = wrote_one c.args.turn.now c.args.log.now.newest _ _ c.write.ensures.written tt

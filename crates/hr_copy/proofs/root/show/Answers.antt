@@ -17,20 +17,20 @@ returns-clause-promised g c = λ to o placed.
     c.args.digest c.in-Some.manifest.now c.in_ok-old.old c.settle-how.result.0 c.requires.asked c.is_sound.ensures c.requires.root
     c.in-Some.ensures placed c.in_ok-old.ensures.dest c.in_ok-old.ensures.told c.settle-how.ensures.decides
     (subst (λ (t : List ℕ). ShowsBy c.settle-how.result.0 c.args.spec.now.to (by.Tag t) c.in-Some.manifest.now
-    (g.D.Registry.seen c.find.new.dest) (g.D.Registry.seen c.settle-how.new.dest)) c.in_ok-named.ensures c.settle-how.ensures.put)
+    (g.D.Registry.seen c.find.new.dest) (g.D.Registry.seen c.settle-how.new.dest)) c.in_ok-named.ensures.ok c.settle-how.ensures.put)
     (c.write.ensures.written ∙ ap (λ t. entry_of c.args.turn.now (Show t c.args.digest c.in_ok-old.old c.settle-how.result.0)
-    ∷ c.args.log.now.newest) c.in_ok-shown.ensures)
+    ∷ c.args.log.now.newest) c.in_ok-shown.ensures.ok)
 
 pub returns-clause-finished : goal.returns-clause-finished
 returns-clause-finished g c =
     on_ok_by c.settle-how.result.1 c.settle-how.ensures.ok
     (finished_shown c.args.turn.now c.args.log.now.newest c.write.new.self.newest c.args.tag.now c.in_ok-shown.shown c.args.digest
-    c.in_ok-old.old c.settle-how.result.0 c.write.ensures.written c.in_ok-shown.ensures)
+    c.in_ok-old.old c.settle-how.result.0 c.write.ensures.written c.in_ok-shown.ensures.ok)
 
 pub returns-clause-wrote : goal.returns-clause-wrote
 returns-clause-wrote g c = wrote_one c.args.turn.now c.args.log.now.newest _ _ c.write.ensures.written
     (decided_step c.args.spec.now c.settle-how.result.0 c.args.tag.now c.in_ok-shown.shown c.args.digest c.in_ok-old.old
-    c.requires.within c.in_ok-shown.ensures c.settle-how.ensures.decides)
+    c.requires.within c.in_ok-shown.ensures.ok c.settle-how.ensures.decides)
 
 pub returns-in_err-named-clause-promised : goal.returns-in_err-named-clause-promised
 returns-in_err-named-clause-promised g c = λ to o placed.
