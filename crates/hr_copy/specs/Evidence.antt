@@ -31,11 +31,12 @@ pub record HasOther (c : Content) (repo : List ℕ) (asked got : Digest) : Type 
   pub bytes : List ℕ
   pub own : digest_of bytes ≡ got
   pub there : (blob_at c repo asked ≡ Some bytes)
-      ⊎ ((media : List ℕ) × (manifest_at c repo asked ≡ Some (record { media = media; bytes = bytes })))
+      ⊎ ((media : List ℕ)
+      × (manifest_at c repo asked ≡ Some (record { media = media; bytes = bytes })))
 
--- a cause that blames a registry is shown by that registry, after the call that gave it: its count of
--- faults rose, or it lacks what the source was asked for, or has other bytes there; the other causes
--- blame none
+-- a cause that blames a registry is shown by that registry, after the call that gave it: its count
+-- of faults rose, or it lacks what the source was asked for, or has other bytes there; the other
+-- causes blame none
 abbrev pub Evidence : Cause → TaskSpec → Reg → Reg → Type 0
 Evidence (cause.Fault reg before after) spec source dest =
     HasFailed reg spec.src before after source.faults

@@ -36,7 +36,8 @@ pub(crate) fn find_blob<D: Registry>(
     ensures wrote { Wrote (IsSilent spec.now) turn.now log.old.newest log.new.newest }
     ensures dest { Untouched (D.seen dest.old) (D.seen dest.new) }
     ensures room { 1 ≤ log.new.room }
-    ensures caused { (source : Reg) → IfErr result (λ cause. Evidence cause spec.now source (D.seen dest.new)) }
+    ensures caused { (source : Reg) → IfErr result
+        (λ cause. Evidence cause spec.now source (D.seen dest.new)) }
 {
     walk.is_sound();
     let len = ask_blob(dest, log, turn, spec, digest)?;
@@ -62,7 +63,8 @@ fn ask_blob<D: Registry>(
     ensures err { OnErr result (log.new.newest ≡ log.old.newest) }
     ensures dest { Untouched (D.seen dest.old) (D.seen dest.new) }
     ensures room { 1 ≤ log.new.room }
-    ensures caused { (source : Reg) → IfErr result (λ cause. Evidence cause spec.now source (D.seen dest.new)) }
+    ensures caused { (source : Reg) → IfErr result
+        (λ cause. Evidence cause spec.now source (D.seen dest.new)) }
 {
     let before = dest.count();
     let len = match dest.has_blob(&spec.to, &digest) {
@@ -133,7 +135,8 @@ fn read_blob<S: Registry>(
     ensures err { OnErr result (log.new.newest ≡ log.old.newest) }
     ensures source { Untouched (S.seen source.old) (S.seen source.new) }
     ensures room { 2 ≤ log.new.room }
-    ensures caused { (dest : Reg) → IfErr result (λ cause. Evidence cause spec.now (S.seen source.new) dest) }
+    ensures caused { (dest : Reg) → IfErr result
+        (λ cause. Evidence cause spec.now (S.seen source.new) dest) }
 {
     let before = source.count();
     let bytes = match source.blob(&spec.from, &digest) {
@@ -178,7 +181,8 @@ fn put_blob<D: Registry>(
     ensures wrote { log.new.newest
         ≡ entry_of turn.now (PutBlob digest (is_ok result)) ∷ log.old.newest }
     ensures room { 1 ≤ log.new.room }
-    ensures caused { (source : Reg) → IfErr result (λ cause. Evidence cause spec.now source (D.seen dest.new)) }
+    ensures caused { (source : Reg) → IfErr result
+        (λ cause. Evidence cause spec.now source (D.seen dest.new)) }
 {
     let before = dest.count();
     let put = dest.put_blob(&spec.to, &digest, bytes.view());

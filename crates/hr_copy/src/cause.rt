@@ -15,7 +15,8 @@ use hr_manifest::Unreadable;
 /// The cause of a registry that gave no answer, with its count of faults before and after.
 pub(crate) fn of_fault(fault: RegFault, reg: RegNo, before: u64, after: u64) -> Cause
     ensures { (spec : TaskSpec) (source dest : Reg) → (fault ≡ RegFault.Failed → Rose before after)
-        → (((reg ≡ spec.src) × (after ≡ source.faults)) ⊎ ((reg ≡ spec.dst) × (after ≡ dest.faults)))
+        → (((reg ≡ spec.src) × (after ≡ source.faults))
+        ⊎ ((reg ≡ spec.dst) × (after ≡ dest.faults)))
         → Evidence result spec source dest }
 {
     match fault {

@@ -38,7 +38,8 @@ pub(crate) fn take_child<S: Registry>(
     ensures wrote { Wrote (IsSilent spec.now) turn.now log.old.newest log.new.newest }
     ensures source { Untouched (S.seen source.old) (S.seen source.new) }
     ensures room { 1 ≤ log.new.room }
-    ensures caused { (dest : Reg) → IfErr result (λ cause. Evidence cause spec.now (S.seen source.new) dest) }
+    ensures caused { (dest : Reg) → IfErr result
+        (λ cause. Evidence cause spec.now (S.seen source.new) dest) }
 {
     walk.is_sound();
     let manifest = read_child(alloc, source, log, turn, spec, digest)?;
@@ -65,7 +66,8 @@ fn read_child<S: Registry>(
     ensures wrote { Wrote (IsSilent spec.now) turn.now log.old.newest log.new.newest }
     ensures source { Untouched (S.seen source.old) (S.seen source.new) }
     ensures room { 1 ≤ log.new.room }
-    ensures caused { (dest : Reg) → IfErr result (λ cause. Evidence cause spec.now (S.seen source.new) dest) }
+    ensures caused { (dest : Reg) → IfErr result
+        (λ cause. Evidence cause spec.now (S.seen source.new) dest) }
 {
     let fetched = fetch_child(source, spec, digest)?;
     let read = Manifest::read(alloc, fetched.media.view(), fetched.bytes.view());
@@ -95,7 +97,8 @@ fn fetch_child<S: Registry>(
 ) -> Result<Fetched, Cause>
     ensures own { IfOk result (λ fetched. digest_of fetched.bytes ≡ digest) }
     ensures source { Untouched (S.seen source.old) (S.seen source.new) }
-    ensures caused { (dest : Reg) → IfErr result (λ cause. Evidence cause spec.now (S.seen source.new) dest) }
+    ensures caused { (dest : Reg) → IfErr result
+        (λ cause. Evidence cause spec.now (S.seen source.new) dest) }
 {
     let before = source.count();
     let reference = Reference::Digest(digest);
@@ -134,7 +137,8 @@ pub(crate) fn put_child<D: Registry>(
     ensures walk { OnOk result (GoesOn walk.old walk.new) }
     ensures wrote { Wrote (IsStep spec.now) turn.now log.old.newest log.new.newest }
     ensures room { 1 ≤ log.new.room }
-    ensures caused { (source : Reg) → IfErr result (λ cause. Evidence cause spec.now source (D.seen dest.new)) }
+    ensures caused { (source : Reg) → IfErr result
+        (λ cause. Evidence cause spec.now source (D.seen dest.new)) }
 {
     walk.is_sound();
     let Some(manifest) = walk.putting() else {
@@ -167,7 +171,8 @@ fn put_manifest<D: Registry>(
     ensures wrote { log.new.newest
         ≡ entry_of turn.now (PutChild digest (is_ok result)) ∷ log.old.newest }
     ensures room { 1 ≤ log.new.room }
-    ensures caused { (source : Reg) → IfErr result (λ cause. Evidence cause spec.now source (D.seen dest.new)) }
+    ensures caused { (source : Reg) → IfErr result
+        (λ cause. Evidence cause spec.now source (D.seen dest.new)) }
 {
     let before = dest.count();
     manifest.is_read();

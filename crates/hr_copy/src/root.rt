@@ -50,7 +50,8 @@ pub(crate) fn read_root<S: Registry>(
         → Sourced from log.old.newest (S.seen source.old)
         → Sourced from log.new.newest (S.seen source.new) }
     ensures room { 1 ≤ log.new.room }
-    ensures caused { (dest : Reg) → IfErr result (λ cause. Evidence cause spec.now (S.seen source.new) dest) }
+    ensures caused { (dest : Reg) → IfErr result
+        (λ cause. Evidence cause spec.now (S.seen source.new) dest) }
 {
     let kept = copied(alloc, tag)?;
     let fetched = fetch_root(alloc, source, spec, tag)?;
@@ -85,7 +86,8 @@ fn fetch_root<S: Registry>(
         (λ c. Some fetched ≡ fetch_at c spec.now.from (by.Tag tag.now))) }
     ensures source { Untouched (S.seen source.old) (S.seen source.new) }
     ensures sound { OnOk result (IsSound (S.seen source.new)) }
-    ensures caused { (dest : Reg) → IfErr result (λ cause. Evidence cause spec.now (S.seen source.new) dest) }
+    ensures caused { (dest : Reg) → IfErr result
+        (λ cause. Evidence cause spec.now (S.seen source.new) dest) }
 {
     let named = copied(alloc, tag)?;
     let reference = Reference::Tag(named);
@@ -133,7 +135,8 @@ pub(crate) fn look<D: Registry>(
     ensures wrote { Wrote (IsStep spec.now) turn.now log.old.newest log.new.newest }
     ensures dest { Untouched (D.seen dest.old) (D.seen dest.new) }
     ensures room { 1 ≤ log.new.room }
-    ensures caused { (source : Reg) → IfErr result (λ cause. Evidence cause spec.now source (D.seen dest.new)) }
+    ensures caused { (source : Reg) → IfErr result
+        (λ cause. Evidence cause spec.now source (D.seen dest.new)) }
 {
     let looked = copied(alloc, tag)?;
     let shown = copied(alloc, tag)?;
@@ -183,7 +186,8 @@ pub(crate) fn show<D: Registry>(
     ensures finished { OnOk result (IsFinished turn.now log.new.newest tag.now) }
     ensures wrote { Wrote (IsStep spec.now) turn.now log.old.newest log.new.newest }
     ensures room { 1 ≤ log.new.room }
-    ensures caused { (source : Reg) → IfErr result (λ cause. Evidence cause spec.now source (D.seen dest.new)) }
+    ensures caused { (source : Reg) → IfErr result
+        (λ cause. Evidence cause spec.now source (D.seen dest.new)) }
 {
     walk.is_sound();
     let named = copied(alloc, tag)?;
@@ -229,7 +233,8 @@ fn find<D: Registry>(
     ensures told { IfOk result (λ found. IfSome (D.seen dest.new).told
         (λ c. found ≡ head_at c spec.now.to (by.Tag tag.now))) }
     ensures dest { Untouched (D.seen dest.old) (D.seen dest.new) }
-    ensures caused { (source : Reg) → IfErr result (λ cause. Evidence cause spec.now source (D.seen dest.new)) }
+    ensures caused { (source : Reg) → IfErr result
+        (λ cause. Evidence cause spec.now source (D.seen dest.new)) }
 {
     let named = copied(alloc, tag)?;
     let before = dest.count();
@@ -254,7 +259,8 @@ fn settle<D: Registry>(
     ensures decides { Decides spec.now.override_it digest old result.0 }
     ensures ok { OnOk result.1 (result.0 ≢ How.Unsure) }
     ensures err { OnErr result.1 (result.0 ≡ How.Unsure) }
-    ensures caused { (source : Reg) → IfErr result.1 (λ cause. Evidence cause spec.now source (D.seen dest.new)) }
+    ensures caused { (source : Reg) → IfErr result.1
+        (λ cause. Evidence cause spec.now source (D.seen dest.new)) }
 {
     match decided(old, digest, spec.override_it) {
         Some(how) => (how, Ok(())),
@@ -274,7 +280,8 @@ fn put_root<D: Registry>(
         (D.seen dest.old) (D.seen dest.new) }
     ensures ok { OnOk result.1 (result.0 ≡ How.Put) }
     ensures err { OnErr result.1 (result.0 ≡ How.Unsure) }
-    ensures caused { (source : Reg) → IfErr result.1 (λ cause. Evidence cause spec.now source (D.seen dest.new)) }
+    ensures caused { (source : Reg) → IfErr result.1
+        (λ cause. Evidence cause spec.now source (D.seen dest.new)) }
 {
     let before = dest.count();
     manifest.is_read();

@@ -1,9 +1,10 @@
 -- The journal of jobs that were run: what its entries are, and of which jobs.
-use Rattle.std.proofs.Common.{◌≡◌, ◌+◌, ◌⊎◌, ℕ, zero, suc, List, [], ◌∷◌, ◌++◌, length, map, Contains, Option, Some, option_map, slice_get, inl, inr, sym, ap, subst, ◌∙◌, arith}
+use Rattle.std.proofs.Common.{◌≡◌, ◌+◌, ◌⊎◌, ℕ, zero, suc, List, [], ◌∷◌, ◌++◌, length, map, Contains, Option, Some, option_map, slice_get, inl, inr, sym, ap, subst, ◌∙◌, arith, IfSome, refl}
 use Rattle.std.specs.Option.{unwrap_or}
 use Rattle.std.specs.List.{AllByRecursion}
 use Rattle.hr_base.specs.declared.status.Status.{Status}
 use Rattle.hr_event.specs.declared.cause.Cause.{Cause}
+use Rattle.hr_event.specs.declared.cause.Cause.TheVariants as cause
 use Rattle.hr_event.specs.declared.entry.Entry.{Entry}
 use Rattle.hr_event.specs.declared.entry.What.{What}
 use Rattle.hr_event.specs.declared.entry.What.TheVariants.{Began, Ended}
@@ -11,11 +12,13 @@ use Rattle.hr_event.specs.declared.reference.Reference.TheVariants as by
 use Rattle.hr_event.specs.declared.task.TaskSpec.{TaskSpec}
 use Rattle.hr_event.specs.declared.task.Turn.{Turn}
 use Rattle.hr_adapter.specs.Content.{Content, fetch_at}
+use Rattle.hr_adapter.specs.Reg.{Reg}
+use Rattle.hr_copy.specs.Evidence.{Evidence, HasOther, IsCaused, IsGone, NewestIsCaused}
 use Rattle.hr_copy.specs.Going.{AreFound}
 use Rattle.hr_copy.specs.Outcome.{Obeys, Ran, entry_of}
 use Rattle.hr_journal.specs.Shown.{AreAlike}
 use Rattle.hr_journal.proofs.LogLemmas.{contains_cases}
-use Rattle.hr_replay.specs.Run.{AreFinal, RanJobs, end_of, from_of, task_of, to_of, turn_of}
+use Rattle.hr_replay.specs.Run.{AreCaused, AreFinal, EndsShown, IsShownBy, NewestShown, RanJobs, end_of, from_of, task_of, to_of, turn_of}
 
 -- ---- the entries of one job
 
@@ -55,6 +58,59 @@ in_turn spec turn status older newer e ran there =
         ]
       ]
     ]
+
+-- ---- the causes of one job
+
+pub evidence_shown : (c : Content) (spec : TaskSpec) (source dest : Reg) (why : Cause) → source.told ≡ Some c → Evidence why spec source dest → IsShownBy c spec why
+evidence_shown c spec source dest (cause.Gone reference) told shown = subst (λ (o : Option Content). IfSome o (λ d. IsGone d spec.from reference)) told shown
+evidence_shown c spec source dest (cause.Differs asked got) told shown =
+    (shown.0, subst (λ (o : Option Content). IfSome o (λ d. HasOther d spec.from asked got)) told shown.1)
+evidence_shown c spec source dest _ told shown = tt
+
+entry_shown : (c : Content) (spec : TaskSpec) (source dest : Reg) (what : What) → source.told ≡ Some c → IsCaused spec source dest what → EndsShown c (Some spec) what
+entry_shown c spec source dest (Ended status (Some why)) told caused = evidence_shown c spec source dest why told caused
+entry_shown c spec source dest _ told caused = tt
+
+pub newest_shown : (c : Content) (spec : TaskSpec) (source dest : Reg) (log : List Entry) → source.told ≡ Some c → NewestIsCaused spec source dest log → NewestShown c spec log
+newest_shown c spec source dest [] told caused = tt
+newest_shown c spec source dest (e ∷ log) told caused = entry_shown c spec source dest e.what told caused
+
+step_shown : (c : Content) (spec : TaskSpec) (what : What) → Obeys spec what → EndsShown c (Some spec) what
+step_shown c spec (Ended status cause) obeys = absurd obeys
+step_shown c spec _ obeys = tt
+
+steps_shown : (c : Content) (spec : TaskSpec) (turn : Turn) (steps : List What) (older : List Entry) (e : Entry) → AllByRecursion (Obeys spec) steps
+    → Contains (map (entry_of turn) steps ++ older) e → ((e.job.0 ≡ turn.job.0) × EndsShown c (Some spec) e.what) ⊎ Contains older e
+steps_shown c spec turn [] older e each there = inr there
+steps_shown c spec turn (what ∷ steps) older e each there = elim (contains_cases (entry_of turn what) (map (entry_of turn) steps ++ older) e there) [
+  | inl same ↦ inl (subst (λ (f : Entry). (f.job.0 ≡ turn.job.0) × EndsShown c (Some spec) f.what) same (refl, step_shown c spec what each.0))
+  | inr later ↦ steps_shown c spec turn steps older e each.1 later
+]
+
+turn_shown : (c : Content) (spec : TaskSpec) (turn : Turn) (status : Status) (older newer : List Entry) (e : Entry) → Ran spec turn status older newer → NewestShown c spec newer
+    → Contains newer e → ((e.job.0 ≡ turn.job.0) × EndsShown c (Some spec) e.what) ⊎ Contains older e
+turn_shown c spec turn status older newer e ran newest there =
+    let last : EndsShown c (Some spec) (Ended status ran.cause) = subst (λ (l : List Entry). NewestShown c spec l) ran.joined newest in
+    elim (contains_cases (entry_of turn (Ended status ran.cause)) (map (entry_of turn) ran.steps ++ entry_of turn Began ∷ older) e (subst (λ (l : List Entry). Contains l e) ran.joined there)) [
+      | inl same ↦ inl (subst (λ (f : Entry). (f.job.0 ≡ turn.job.0) × EndsShown c (Some spec) f.what) same (refl, last))
+      | inr within ↦ elim (steps_shown c spec turn ran.steps (entry_of turn Began ∷ older) e ran.each within) [
+        | inl step ↦ inl step
+        | inr first ↦ elim (contains_cases (entry_of turn Began) older e first) [
+          | inl began ↦ inl (subst (λ (f : Entry). (f.job.0 ≡ turn.job.0) × EndsShown c (Some spec) f.what) began (refl, tt))
+          | inr before ↦ inr before
+        ]
+      ]
+    ]
+
+pub job_caused : (c : Content) (tasks : List TaskSpec) (at : ℕ) (spec : TaskSpec) (status : Status) (older newer : List Entry) → slice_get tasks at ≡ Some spec
+    → Ran spec (turn_of (at + 1)) status older newer → NewestShown c spec newer → AreCaused c tasks older → AreCaused c tasks newer
+job_caused c tasks at spec status older newer is ran newest caused e there = elim (turn_shown c spec (turn_of (at + 1)) status older newer e ran newest there) [
+  | inl shown ↦
+      let was = shown.0 in
+      let job : e.job.0 ≡ suc at = omega (arith, was) in
+      subst (λ (o : Option TaskSpec). EndsShown c o e.what) (sym (ap (task_of tasks) job ∙ is)) shown.1
+  | inr before ↦ caused e before
+]
 
 -- ---- the entries of jobs one after the other
 
@@ -160,6 +216,16 @@ place_stays of tasks more ends e known =
     let here : task_of tasks e.job.0 ≡ Some known.spec = ap (task_of tasks) job ∙ known.task in
     let there : task_of (tasks ++ more) e.job.0 ≡ Some known.spec = ap (task_of (tasks ++ more)) job ∙ get_stays tasks more (0 + at) known.spec known.task in
     ap (λ (o : Option TaskSpec). unwrap_or (option_map of o) []) (here ∙ sym there)
+
+pub caused_more : (c : Content) (tasks more : List TaskSpec) (ends : List Status) (log : List Entry) → RanJobs tasks 0 ends [] log → AreCaused c tasks log → AreCaused c (tasks ++ more) log
+caused_more c tasks more ends log ran caused e there =
+    let known = of_jobs tasks ends log e ran there in
+    let at = known.at in
+    let was = known.job in
+    let job : e.job.0 ≡ suc (0 + at) = omega (arith, was) in
+    let here : task_of tasks e.job.0 ≡ Some known.spec = ap (task_of tasks) job ∙ known.task in
+    let now : task_of (tasks ++ more) e.job.0 ≡ Some known.spec = ap (task_of (tasks ++ more)) job ∙ get_stays tasks more (0 + at) known.spec known.task in
+    subst (λ (o : Option TaskSpec). EndsShown c o e.what) (here ∙ sym now) (caused e there)
 
 pub to_alike : (tasks more : List TaskSpec) (ends : List Status) (log : List Entry) → RanJobs tasks 0 ends [] log → AreAlike (to_of tasks) (to_of (tasks ++ more)) log
 to_alike tasks more ends log ran e there = place_stays (λ (t : TaskSpec). t.to) tasks more ends e (of_jobs tasks ends log e ran there)

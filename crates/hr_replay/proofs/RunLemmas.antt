@@ -17,8 +17,8 @@ use Rattle.hr_replay.specs.Fit.{IsScripted}
 use Rattle.hr_replay.specs.Opening.{Contents, content_in}
 use Rattle.hr_replay.specs.Plan.{job_limit, plan_of}
 use Rattle.hr_replay.specs.Replay.{Holds}
-use Rattle.hr_replay.proofs.JobLemmas.{are_final, found_alike, ran_more, ran_then, to_alike}
-use Rattle.hr_replay.specs.Run.{AreDone, Does, Finishes, Goes, IsDone, IsOrdered, RanJob, RanJobs, Runs, State, Triggers, from_of, opening, task_of, to_of}
+use Rattle.hr_replay.proofs.JobLemmas.{are_final, caused_more, found_alike, job_caused, ran_more, ran_then, to_alike}
+use Rattle.hr_replay.specs.Run.{AreCaused, AreDone, Does, Finishes, Goes, IsDone, IsOrdered, NewestShown, RanJob, RanJobs, Runs, State, Triggers, from_of, opening, task_of, to_of}
 
 -- ---- lists
 
@@ -50,6 +50,7 @@ goes_nowhere s = record {
   ended = [];
   joined = sym (append-nil s.ends);
   ran = refl;
+  caused = λ caused. caused;
   promised = λ o promise. promise;
   found = λ found. found;
 }
@@ -68,6 +69,12 @@ goes_on_then a b c one two = record {
   ran = ran_then a.tasks (length a.ends) one.ended two.ended a.log b.log c.log one.ran
       (subst (λ (n : ℕ). RanJobs a.tasks n two.ended b.log c.log) (ap length one.joined ∙ length-append a.ends one.ended)
       (subst (λ (tasks : List TaskSpec). RanJobs tasks (length b.ends) two.ended b.log c.log) one.tasks two.ran));
+  caused = λ caused.
+      let source = source_stays a b one in
+      subst (λ (s : Content). AreCaused s a.tasks c.log) source
+      (subst (λ (tasks : List TaskSpec). AreCaused (content_in b.contents 1) tasks c.log) one.tasks
+      (two.caused (subst (λ (tasks : List TaskSpec). AreCaused (content_in b.contents 1) tasks b.log) (sym one.tasks)
+      (subst (λ (s : Content). AreCaused s a.tasks b.log) (sym source) (one.caused caused)))));
   promised = λ o promise.
       subst (λ (tasks : List TaskSpec). Promise (to_of tasks) o c.log (content_in c.contents 2)) one.tasks
       (two.promised o (subst (λ (tasks : List TaskSpec). Promise (to_of tasks) o b.log (content_in b.contents 2)) (sym one.tasks) (one.promised o promise)));
@@ -83,6 +90,7 @@ goes_on_then a b c one two = record {
 
 pub record RanOne (before : State) (spec : TaskSpec) (status : Status) (log : List Entry) (contents : Contents) : Type 0 where
   pub ran : RanJob spec (length before.ends + 1) status before.log log
+  pub newest : NewestShown (content_in before.contents 1) spec log
   pub copied : Content
   pub set : contents ≡ slice_set before.contents 1 copied
   pub promised : (place : ℕ → List ℕ) (o : Content) → place (length before.ends + 1) ≡ spec.to
@@ -101,6 +109,7 @@ goes_one before after spec status is ran tasks execs ends = record {
   ended = status ∷ [];
   joined = ends;
   ran = (spec, after.log, is, ran.ran, refl);
+  caused = job_caused (content_in before.contents 1) before.tasks (length before.ends) spec status before.log after.log is ran.ran.ran ran.newest;
   promised = λ o. ran.promised (to_of before.tasks) o (ap (place (λ (t : TaskSpec). t.to)) (task_there is));
   found = ran.found (from_of before.tasks) (ap (place (λ (t : TaskSpec). t.from)) (task_there is));
 }
@@ -181,6 +190,7 @@ pub record Keeps (first state : State) : Type 0 where
   pub promise : Promise (to_of state.tasks) (content_in first.contents 2) state.log (content_in state.contents 2)
   pub found : AreFound (from_of state.tasks) (content_in first.contents 1) state.log
   pub ran : RanJobs state.tasks 0 state.ends [] state.log
+  pub caused : AreCaused (content_in first.contents 1) state.tasks state.log
   pub source : content_in state.contents 1 ≡ content_in first.contents 1
 
 keeps_along : (first a b : State) → b ≡ a → Keeps first a → Keeps first b
@@ -191,6 +201,7 @@ triggers_keeps first before None text after keeps does = keeps_along first _ aft
   promise = keeps.promise;
   found = keeps.found;
   ran = keeps.ran;
+  caused = keeps.caused;
   source = keeps.source;
 })
 triggers_keeps first before (Some specs) text after keeps does = ⊎_elim
@@ -199,6 +210,7 @@ triggers_keeps first before (Some specs) text after keeps does = ⊎_elim
           (to_alike before.tasks specs before.ends before.log keeps.ran) keeps.promise;
       found = found_alike before.tasks specs before.ends (content_in first.contents 1) before.log keeps.ran keeps.found;
       ran = ran_more before.tasks specs 0 before.ends [] before.log keeps.ran;
+      caused = caused_more (content_in first.contents 1) before.tasks specs before.ends before.log keeps.ran keeps.caused;
       source = keeps.source;
     }))
     (λ full. keeps_along first before after full.1 keeps) does
@@ -220,6 +232,9 @@ does_keeps first before event.Finish text after keeps does =
           (subst (λ (ends : List Status). RanJobs before.tasks 0 ends [] after.log) (sym goes.joined)
           (ran_then before.tasks 0 before.ends goes.ended [] before.log after.log keeps.ran
           (subst (λ (n : ℕ). RanJobs before.tasks n goes.ended before.log after.log) zero_more goes.ran)));
+      caused = subst (λ (tasks : List TaskSpec). AreCaused (content_in first.contents 1) tasks after.log) (sym goes.tasks)
+          (subst (λ (s : Content). AreCaused s before.tasks after.log) keeps.source
+          (goes.caused (subst (λ (s : Content). AreCaused s before.tasks before.log) (sym keeps.source) keeps.caused)));
       source = source_stays before after goes ∙ keeps.source;
     }
 does_keeps first before (event.Tags reg) text after keeps does = keeps_along first before after does.0 keeps
@@ -241,6 +256,7 @@ holds_after opens events text after honest runs =
       found = keeps.found;
       ran = keeps.ran;
       final = are_final after.tasks after.ends after.log keeps.ran;
+      caused = keeps.caused;
     }
   where
     start : Keeps (opening opens) (opening opens)
@@ -248,6 +264,7 @@ holds_after opens events text after honest runs =
       promise = promise_opens (to_of []) (content_in opens 2) honest;
       found = nothing_found (from_of []) (content_in opens 1);
       ran = refl;
+      caused = λ e (k, within, is). absurd (omega arith);
       source = refl;
     }
 

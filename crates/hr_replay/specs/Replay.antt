@@ -5,7 +5,7 @@ use Rattle.hr_adapter.specs.Content.{Honest}
 use Rattle.hr_copy.specs.Going.{AreFound}
 use Rattle.hr_journal.specs.Promise.{Promise}
 use Rattle.hr_replay.specs.Opening.{Contents, content_in}
-use Rattle.hr_replay.specs.Run.{AreFinal, IsDone, RanJobs, Runs, State, from_of, opening, to_of}
+use Rattle.hr_replay.specs.Run.{AreCaused, AreFinal, IsDone, RanJobs, Runs, State, from_of, opening, to_of}
 use Rattle.hr_replay.specs.Script.{IsScript}
 use Rattle.hr_replay.specs.declared.session.Ending.{Ending}
 
@@ -17,13 +17,15 @@ pub record IsKept (state : State) (kept : Ending) : Type 0 where
 
 -- each tag that was put at registry 2 and names its manifest still names one that was read at
 -- registry 1, whose whole graph stands there; the journal is that of the jobs that were run, each
--- as its task says; and each revision has at most one final status
+-- as its task says; each revision has at most one final status; and a cause that blames registry 1
+-- is shown by its content
 pub record Holds (first state : State) : Type 0 where
   pub promise : Promise (to_of state.tasks) (content_in first.contents 2)
       state.log (content_in state.contents 2)
   pub found : AreFound (from_of state.tasks) (content_in first.contents 1) state.log
   pub ran : RanJobs state.tasks 0 state.ends [] state.log
   pub final : AreFinal state.ends state.log
+  pub caused : AreCaused (content_in first.contents 1) state.tasks state.log
 
 -- 0 where each execution succeeded, else 7
 abbrev pub HasStatus : State → ℕ → Type 0

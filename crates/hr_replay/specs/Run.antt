@@ -5,13 +5,16 @@ use Rattle.std.specs.Option.{unwrap_or}
 use Rattle.hr_base.specs.declared.status.Status.{Status}
 use Rattle.hr_base.specs.declared.status.Status.TheVariants.{Success}
 use Rattle.hr_event.specs.declared.cause.Cause.{Cause}
+use Rattle.hr_event.specs.declared.cause.Cause.TheVariants as cause
 use Rattle.hr_event.specs.declared.entry.Entry.{Entry}
+use Rattle.hr_event.specs.declared.entry.What.{What}
 use Rattle.hr_event.specs.declared.entry.What.TheVariants.{Ended}
 use Rattle.hr_event.specs.declared.event.Event.{Event}
 use Rattle.hr_event.specs.declared.event.Event.TheVariants as event
 use Rattle.hr_event.specs.declared.task.TaskSpec.{TaskSpec}
 use Rattle.hr_event.specs.declared.task.Turn.{Turn}
 use Rattle.hr_adapter.specs.Content.{Content}
+use Rattle.hr_copy.specs.Evidence.{HasOther, IsGone}
 use Rattle.hr_copy.specs.Going.{AreFound}
 use Rattle.hr_copy.specs.Outcome.{IsFinished, Ran}
 use Rattle.hr_journal.specs.Promise.{Promise}
@@ -74,6 +77,27 @@ abbrev pub AreFinal : List Status → List Entry → Type 0
 AreFinal ends log = (e : Entry) (status : Status) (cause : Option Cause) → Contains log e
     → e.what ≡ Ended status cause → end_of ends e.job.0 ≡ Some status
 
+-- a cause that blames the source is shown by its content: it lacks what was asked for, or has other
+-- bytes there
+abbrev pub IsShownBy : Content → TaskSpec → Cause → Type 0
+IsShownBy c spec (cause.Gone reference) = IsGone c spec.from reference
+IsShownBy c spec (cause.Differs asked got) = (got ≢ asked) × HasOther c spec.from asked got
+IsShownBy c spec _ = Unit {0}
+
+-- so is the cause by which an entry ends a revision of a task
+abbrev pub EndsShown : Content → Option TaskSpec → What → Type 0
+EndsShown c (Some spec) (Ended status (Some why)) = IsShownBy c spec why
+EndsShown c _ _ = Unit {0}
+
+-- so is the cause of the newest entry
+abbrev pub NewestShown : Content → TaskSpec → List Entry → Type 0
+NewestShown c spec [] = Unit {0}
+NewestShown c spec (e ∷ log) = EndsShown c (Some spec) e.what
+
+-- so is each cause in a journal
+abbrev pub AreCaused : Content → List TaskSpec → List Entry → Type 0
+AreCaused c tasks log = (e : Entry) → Contains log e → EndsShown c (task_of tasks e.job.0) e.what
+
 -- waiting jobs were run, one after the other from the first: they wrote to registry 2 alone
 pub record Goes (before after : State) : Type 0 where
   pub tasks : after.tasks ≡ before.tasks
@@ -83,6 +107,8 @@ pub record Goes (before after : State) : Type 0 where
   pub ended : List Status
   pub joined : after.ends ≡ before.ends ++ ended
   pub ran : RanJobs before.tasks (length before.ends) ended before.log after.log
+  pub caused : AreCaused (content_in before.contents 1) before.tasks before.log
+      → AreCaused (content_in before.contents 1) before.tasks after.log
   -- the destination keeps the promise, and the journal says what the source shows
   pub promised : (o : Content)
       → Promise (to_of before.tasks) o before.log (content_in before.contents 2)

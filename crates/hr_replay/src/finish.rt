@@ -7,7 +7,7 @@ ghost use Rattle.hr_copy.specs.Going.{AreFound};
 ghost use Rattle.hr_copy.specs.Outcome.{IsFinished, Ran};
 ghost use Rattle.hr_journal.specs.Promise.{Promise};
 ghost use Rattle.hr_replay.specs.Opening.{content_in, contents_of};
-ghost use Rattle.hr_replay.specs.Run.{Finishes, Goes, IsOrdered};
+ghost use Rattle.hr_replay.specs.Run.{Finishes, Goes, IsOrdered, NewestShown};
 
 use crate::session::Session;
 use hr_base::{JobNo, Memory, Status};
@@ -68,6 +68,8 @@ fn run_task(
     requires { 2 ≤ length regs.old }
     ensures ran { IfOk result
         (λ status. Ran spec.now turn.now status log.old.newest log.new.newest) }
+    ensures caused { OnOk result
+        (NewestShown (content_in (contents_of regs.old) 1) spec.now log.new.newest) }
     ensures finished { result ≡ Ok Success
         → AllByRecursion (IsFinished turn.now log.new.newest) spec.now.tags }
     ensures contents { OnOk result ((copied : Content)

@@ -1,11 +1,12 @@
-use Rattle.std.proofs.Common.{◌≡◌, [], Option, refl, sym, ap, subst, ◌∙◌}
+use Rattle.std.proofs.Common.{◌≡◌, [], Option, Some, refl, sym, ap, subst, ◌∙◌}
 use Rattle.std.specs.Option.{unwrap_or}
 use Rattle.hr_adapter.specs.Content.{Content}
 use Rattle.hr_copy.specs.Going.{AreFound}
 use Rattle.hr_journal.specs.Promise.{Promise}
 use Rattle.hr_memreg.specs.Mem.{Mem}
 use Rattle.hr_replay.specs.Opening.{content_in, contents_of}
-use Rattle.hr_replay.proofs.StoreLemmas.{first_is, on_ok, second_changed, second_is, second_put}
+use Rattle.hr_replay.proofs.JobLemmas.{newest_shown}
+use Rattle.hr_replay.proofs.StoreLemmas.{first_is, on_ok, on_ok_then, second_changed, second_is, second_put}
 use Rattle.hr_replay.proofs.finish.run_task.Goals as goal
 
 pub returns : goal.returns
@@ -22,6 +23,8 @@ returns c =
     let second : content_in (contents_of regs) 2 ≡ c.replace-dest.result.content = second_is regs c.replace-dest.result c.index-regs-1.result c.requires (c.replace-dest.ensures.value ∙ sym c.index-regs-1.is) c.index-regs-1.is in
     record {
       ran = copied.ensures.ran;
+      caused = on_ok_then copied.result _ _
+          (λ newest. newest_shown (content_in (contents_of regs) 1) c.args.spec.now _ _ copied.new.log.newest (ap Some same) newest) copied.ensures.caused;
       finished = copied.ensures.finished;
       contents = on_ok copied.result _ (d.content, second_changed regs none s d c.requires same);
       promised = λ place o. on_ok copied.result _ (λ placed promise.

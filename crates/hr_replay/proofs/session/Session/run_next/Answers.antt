@@ -28,6 +28,7 @@ returns c =
     let waits : length c.view-at.result.now < length c.view.result.now = subst (λ (s : State). length s.ends < length s.tasks) (sym same) c.requires.waits in
     let ran : RanOne before c.index-view-at.result c.in_ok-status.status after.log after.contents = record {
       ran = record { ran = told.ran; finished = λ e. told.finished (ap Ok e) };
+      newest = told.caused;
       copied = told.contents.0;
       set = told.contents.1;
       promised = λ place o. told.promised place o;
