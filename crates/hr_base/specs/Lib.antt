@@ -1,2 +1,4 @@
+pub mod Bytes
 pub mod Merge
+pub mod Moment
 pub mod Status

@@ -1,5 +1,5 @@
 -- The statuses of a task's revision, after those of Harbor's job service.
-use Rattle.std.specs.Prelude.{◌≡◌, ℕ}
+use Rattle.std.specs.Prelude.{◌≡◌, ◌<◌, ◌⊎◌, ℕ}
 use Rattle.hr_base.specs.declared.status.Status.{Status}
 use Rattle.hr_base.specs.declared.status.Status.TheVariants.{Pending, Scheduled, Running, Stopped, Error, Success}
 use Rattle.hr_base.specs.declared.status.Mark.{Mark}
@@ -27,3 +27,9 @@ word_of (At Running) = 3
 word_of (At Stopped) = 4
 word_of (At Error) = 5
 word_of (At Success) = 6
+
+-- a revision whose word has this mark reached this status, or went past it: the mark is that status,
+-- or one of a greater code
+abbrev pub Covers : Mark → Status → Type 0
+Covers Unopened status = ⊥
+Covers (At known) status = (known ≡ status) ⊎ (code_of status < code_of known)

@@ -3,6 +3,7 @@
 #![tactic(auto)]
 
 mod bytes;
+mod limit;
 mod list;
 mod memory;
 mod merge;
@@ -10,12 +11,15 @@ mod number;
 mod status;
 #[cfg(test)]
 mod tests;
+mod trace;
 
 pub use bytes::Bytes;
+pub use limit::{MANIFEST_LIMIT, PIECE};
 pub use list::List;
 pub use memory::Memory;
 pub use merge::{
     join, join_all, joined_again, joined_in_any_order, joined_in_turn, joined_is_first_greatest,
 };
-pub use number::{ExecNo, JobNo, Moment, PolicyNo, RegNo};
+pub use number::{ExecNo, JobNo, LAST_MOMENT, Moment, PolicyNo, RegNo};
 pub use status::{Hook, Mark, Status};
+pub use trace::Trace;

@@ -62,7 +62,7 @@ impl Status {
 }
 
 impl Mark {
-    ghost use Rattle.hr_base.specs.Status.{word_of};
+    ghost use Rattle.hr_base.specs.Status.{word_of, Covers};
     ghost use Rattle.hr_base.specs.declared.status.Mark.{Mark};
 
     /// The number by which a board keeps this mark, from 0 to 6.
@@ -95,6 +95,17 @@ impl Mark {
             5 => Some(Mark::At(Status::Error)),
             6 => Some(Mark::At(Status::Success)),
             _ => None,
+        }
+    }
+
+    /// Whether a revision whose word has this mark reached this status, or went past it: the mark is
+    /// that status, or one of a greater code.
+    pub fn covers(self, status: Status) -> bool
+        ensures { IsTrue result ↔ Covers self status }
+    {
+        match self {
+            Mark::Unopened => false,
+            Mark::At(known) => known == status || status.code() < known.code(),
         }
     }
 }

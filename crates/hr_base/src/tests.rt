@@ -1,4 +1,4 @@
-use crate::{Bytes, Hook, JobNo, List, Mark, Status, join, join_all};
+use crate::{Bytes, Hook, JobNo, LAST_MOMENT, List, Mark, Moment, Status, Trace, join, join_all};
 use std::test::Fail;
 
 #[test]
@@ -47,7 +47,35 @@ fn each_mark_has_its_word_and_code(rt: HostRuntime) {
     for (status, code, is_final) in codes {
         assert_eq!(rt; status.code(), code, "{status:?}");
         assert_eq!(rt; status.is_final(), is_final, "{status:?}");
+        assert!(rt; Mark::At(status).covers(status), "{status:?}");
+        assert!(rt; !Mark::Unopened.covers(status), "{status:?}");
     }
+    assert!(rt; Mark::At(Status::Error).covers(Status::Running));
+    assert!(rt; !Mark::At(Status::Error).covers(Status::Success));
+}
+
+#[test]
+fn moments_end_at_the_last(rt: HostRuntime) {
+    let table = [
+        (0, 10, 10),
+        (252_999_999_999, 1, LAST_MOMENT),
+        (LAST_MOMENT, 1, LAST_MOMENT),
+        (5, u64::MAX, LAST_MOMENT),
+    ];
+    for (from, seconds, sum) in table {
+        assert_eq!(rt; Moment(from).plus(seconds), Moment(sum), "{from} {seconds}");
+    }
+    assert_eq!(rt; Moment::capped(u64::MAX), Moment(253_000_000_000));
+}
+
+// What goes to other threads, or is shared by them.
+fn shared<T: Send + Sync>(_: &T) {}
+
+#[test]
+fn a_trace_takes_no_bytes(rt: HostRuntime) {
+    let trace = Trace::new().then(&1u8).then_all(&[2, 3]);
+    shared(&trace);
+    assert_eq!(rt; size_of::<Trace<u8>>(), 0);
 }
 
 fn hook(rev: u8, status: Status) -> Hook {
