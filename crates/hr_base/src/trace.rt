@@ -4,6 +4,8 @@ ghost use Rattle.std.specs.Prelude.{◌≡◌, ◌++◌, ◌∷◌, List, []};
 ghost use Rattle.std.specs.Borrow.{ftrue};
 ghost use base.Stored.{coded_list};
 
+use std::fmt;
+use std::fmt::{Debug, Formatter, Write};
 use std::marker::{Model, PhantomData};
 
 /// The items so far, in order. It has no bytes, owns nothing, and may go to any thread.
@@ -55,5 +57,12 @@ unsafe impl<T> Sync for Trace<T> {}
 impl<T> Drop for Trace<T> {
     fn drop(self) {
         let Trace { marker: _ } = self;
+    }
+}
+
+/// It shows its name alone, since it has no items that a program could show.
+impl<T> Debug for Trace<T> {
+    fn fmt<W: Write>(&self, f: &mut Formatter<W>) -> fmt::Result {
+        f.write_str("Trace")
     }
 }
