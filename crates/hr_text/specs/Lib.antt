@@ -1,0 +1,5 @@
+pub mod Cutting
+pub mod Escaping
+pub mod Hexadecimal
+pub mod Number
+pub use Rattle.hex.specs.Hex
