@@ -1,3 +1,5 @@
 mod MovesLemmas
+mod OverLemmas
+mod PastLemmas
 mod PlainLemmas
 mod StoppingLemmas

@@ -1,8 +1,9 @@
 pub mod Current
 pub mod Moves
+pub mod Over
 pub mod Past
 pub mod Plain
+pub mod Roles
 pub mod Stopping
-pub mod Trail
 pub mod View
 pub use Rattle.hr_base.specs.Status

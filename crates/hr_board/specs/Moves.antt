@@ -1,21 +1,21 @@
 -- The moves of a status word, and what is reached by them. (Our own.)
-use Rattle.std.specs.Prelude.{◌≡◌, ◌≢◌, ℕ, ◌≤◌}
+use Rattle.std.specs.Prelude.{◌≡◌, ◌≢◌, ⊤, ℕ, ◌≤◌}
 use Rattle.hr_base.specs.declared.status.Status.TheVariants.{Pending, Scheduled, Running, Stopped, Error, Success}
 use Rattle.hr_base.specs.declared.status.Mark.{Mark}
 use Rattle.hr_base.specs.declared.status.Mark.TheVariants.{Unopened, At}
 
 -- a word may move from one mark to another
 abbrev pub IsMove : Mark → Mark → Type 0
-IsMove Unopened (At Pending) = Unit {0}
-IsMove Unopened (At Scheduled) = Unit {0}
-IsMove Unopened (At Stopped) = Unit {0}
-IsMove (At Pending) (At Running) = Unit {0}
-IsMove (At Pending) (At Stopped) = Unit {0}
-IsMove (At Scheduled) (At Running) = Unit {0}
-IsMove (At Scheduled) (At Stopped) = Unit {0}
-IsMove (At Running) (At Stopped) = Unit {0}
-IsMove (At Running) (At Error) = Unit {0}
-IsMove (At Running) (At Success) = Unit {0}
+IsMove Unopened (At Pending) = ⊤
+IsMove Unopened (At Scheduled) = ⊤
+IsMove Unopened (At Stopped) = ⊤
+IsMove (At Pending) (At Running) = ⊤
+IsMove (At Pending) (At Stopped) = ⊤
+IsMove (At Scheduled) (At Running) = ⊤
+IsMove (At Scheduled) (At Stopped) = ⊤
+IsMove (At Running) (At Stopped) = ⊤
+IsMove (At Running) (At Error) = ⊤
+IsMove (At Running) (At Success) = ⊤
 IsMove from to = ⊥
 
 -- a mark is reached from another by moves, none included

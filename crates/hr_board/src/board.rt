@@ -18,7 +18,7 @@ use hr_base::{JobNo, Mark};
 /// A later revision opens only after the one before it ended at `Error`. Others may move the words
 /// too, so a board knows of a word what it noted: what is noted later is reached from it, and a
 /// final mark, once noted, is the word for good.
-pub trait Board {
+pub trait Board: Drop {
     /// The board as contracts see it.
     ghost seen: { Self → View };
 

@@ -4,8 +4,8 @@ ghost use Rattle.hr_base.specs.Status.{word_of};
 ghost use Rattle.hr_board.specs.View.{place_of};
 
 use crate::Board;
-use crate::trail::{Note, Trail};
-use hr_base::{JobNo, Mark, Memory, Status};
+use crate::trail::{Note, new_trace, noted};
+use hr_base::{JobNo, Mark, Memory, Status, Trace};
 use std::alloc::Global;
 use std::marker::Model;
 
@@ -13,17 +13,18 @@ use std::marker::Model;
 #[derive(Debug, Drop)]
 pub struct PlainBoard {
     words: Vec<u64>,
-    trail: Trail,
+    trail: Trace<Note>,
 }
 
 impl Model for PlainBoard {
+    ghost use Rattle.hr_board.specs.Past.{past_of};
     ghost use Rattle.hr_board.specs.Plain.{Plain, IsLawful};
 
     ghost Value = { Plain };
 
-    ghost view = { λ board. record { words = board.words.items; past = board.trail.past } };
+    ghost view = { λ board. record { words = board.words.items; past = past_of board.trail.items } };
 
-    ghost invariant = { λ board. IsLawful board.words.items board.trail.past };
+    ghost invariant = { λ board. IsLawful board.words.items (past_of board.trail.items) };
 }
 
 impl PlainBoard {
@@ -36,7 +37,7 @@ impl PlainBoard {
     {
         Ok(PlainBoard {
             words: vec![in alloc; 0u64; 4 * jobs as usize]?,
-            trail: Trail::new(),
+            trail: new_trace(),
         })
     }
 
@@ -68,7 +69,9 @@ impl Board for PlainBoard {
 
     ghost seen = { view_of };
 
-    ghost same = { λ _ _. Unit {0} };
+    ghost use Rattle.std.specs.Prelude.{⊤};
+
+    ghost same = { λ _ _. ⊤ };
 
     ghost same_as_itself = { λ _. tt };
 
@@ -81,7 +84,7 @@ impl Board for PlainBoard {
     fn look(&mut self, job: JobNo, rev: u8) -> Mark {
         let at = place(job, rev);
         let found = self.words[at];
-        self.trail = Trail::with(&self.trail, &Note::Saw(at, found));
+        self.trail = noted(&self.trail, &Note::Saw(at, found));
         mark_of(found)
     }
 
@@ -90,16 +93,16 @@ impl Board for PlainBoard {
         let word = self.words[at];
         let (old, new) = (from.word(), to.word());
         if word != old {
-            self.trail = Trail::with(&self.trail, &Note::Saw(at, word));
+            self.trail = noted(&self.trail, &Note::Saw(at, word));
             return Err(mark_of(word));
         }
         self.words[at] = new;
-        self.trail = Trail::with(&self.trail, &Note::Moved(at, old, new));
+        self.trail = noted(&self.trail, &Note::Moved(at, old, new));
         Ok(())
     }
 }
 
-/// Where the word of a revision stands.
+// Where the word of a revision stands.
 fn place(job: JobNo, rev: u8) -> usize
     requires { 1 ≤ job.0 }
     ensures { result ≡ place_of job.0 rev }
@@ -107,7 +110,7 @@ fn place(job: JobNo, rev: u8) -> usize
     4 * (job.0 as usize - 1) + rev as usize
 }
 
-/// The mark of a word.
+// The mark of a word.
 fn mark_of(word: u64) -> Mark
     requires { word ≤ 6 }
     ensures { word_of result ≡ word }

@@ -3,6 +3,7 @@ ghost use Rattle.std.specs.Prelude.{◌≡◌, ◌+◌, ◌≤◌, ◌<◌, IsTr
 ghost use Rattle.std.specs.Bool.{OnTrue, OnFalse};
 ghost use Rattle.hr_base.specs.Status.{word_of, IsFinal};
 ghost use Rattle.hr_board.specs.View.{place_of, Keeps, OpensAfterError};
+ghost use Rattle.hr_board.specs.Roles.{ServesStop};
 ghost use Rattle.hr_board.specs.Stopping.{Stops, StopsPlace};
 
 use crate::Board;
@@ -22,7 +23,7 @@ pub enum StopAnswer {
 pub fn stop<B: Board>(board: &mut B, job: JobNo, attempts: u8) -> StopAnswer
     requires job { (1 ≤ job.0) × (job.0 ≤ (B.seen board.old).jobs) }
     requires attempts { (1 ≤ attempts) × (attempts ≤ 4) }
-    requires allowed { IsTrue ((B.seen board.old).allows (word_of (Mark.At Status.Stopped))) }
+    requires allowed { ServesStop (B.seen board.old) }
     ensures stops { Stops (B.seen board.old) job.0 attempts result (B.seen board.new) }
     ensures kept { Keeps (B.seen board.old) (B.seen board.new) }
     ensures same { B.same board.old board.new }
@@ -41,7 +42,7 @@ pub fn stop<B: Board>(board: &mut B, job: JobNo, attempts: u8) -> StopAnswer
     }
 }
 
-/// Whether another attempt follows a revision that ended so.
+// Whether another attempt follows a revision that ended so.
 fn leaves_attempt(status: Status, rev: u8, attempts: u8) -> bool
     requires { rev < attempts }
     ensures yes { OnTrue result ((status ≡ Status.Error) × (rev + 1 < attempts)) }
@@ -53,11 +54,11 @@ fn leaves_attempt(status: Status, rev: u8, attempts: u8) -> bool
     }
 }
 
-/// Stops one revision. Answers its status where it is final already.
+// Stops one revision. Answers its status where it is final already.
 fn stop_at<B: Board>(board: &mut B, job: JobNo, rev: u8) -> Option<Status>
     requires job { (1 ≤ job.0) × (job.0 ≤ (B.seen board.old).jobs) }
     requires rev { rev ≤ 3 }
-    requires allowed { IsTrue ((B.seen board.old).allows (word_of (Mark.At Status.Stopped))) }
+    requires allowed { ServesStop (B.seen board.old) }
     requires opens { OpensAfterError (B.seen board.old) job.0 rev (word_of Mark.Unopened) }
     ensures stops { StopsPlace (B.seen board.old) (place_of job.0 rev) result (B.seen board.new) }
     ensures same { B.same board.old board.new }
@@ -74,7 +75,7 @@ fn stop_at<B: Board>(board: &mut B, job: JobNo, rev: u8) -> Option<Status>
     }
 }
 
-/// The status of a revision that is over.
+// The status of a revision that is over.
 fn final_status(mark: Mark) -> Option<Status>
     ensures unfinished { IfNone result (word_of mark < 4) }
     ensures over { IfSome result (λ status. (mark ≡ Mark.At status) × IsFinal status) }

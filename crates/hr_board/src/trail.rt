@@ -1,19 +1,8 @@
-//! What a board saw and did, for contracts alone. It takes no bytes, and its calls no time.
+//! What a board saw and did, for contracts alone: a trace, which takes no bytes.
 ghost use Rattle.std.specs.Prelude.{◌≡◌};
-ghost use Rattle.std.specs.Borrow.{ftrue};
-ghost use Rattle.hr_board.specs.Past.{Past, no_past};
+ghost use Rattle.hr_board.specs.Past.{no_past, past_of, with_note};
 
-use std::marker::Model;
-
-/// The notes, own final moves and opens of a board.
-#[derive(Debug, Drop)]
-pub(crate) struct Trail {
-    pub(crate) ghost past: { Past },
-}
-
-impl Model for Trail {
-    ghost also_owns = { λ _. ftrue };
-}
+use hr_base::Trace;
 
 /// One thing that a board saw or did, by places and words.
 #[derive(Clone, Copy)]
@@ -24,19 +13,16 @@ pub(crate) enum Note {
     Moved(usize, u64, u64),
 }
 
-impl Trail {
-    ghost use Rattle.hr_board.specs.Trail.{with_note};
+/// The trace of a board that saw and did nothing.
+pub(crate) fn new_trace() -> Trace<Note>
+    ensures { past_of result.items ≡ no_past }
+{
+    Trace::new()
+}
 
-    pub(crate) fn new() -> Trail
-        ensures { result.past ≡ no_past }
-    {
-        Trail {}
-    }
-
-    #[inline(always)]
-    pub(crate) fn with(_before: &Trail, _note: &Note) -> Trail
-        ensures { result.past ≡ with_note _before.now.past _note.now }
-    {
-        Trail {}
-    }
+/// The trace with one note more.
+pub(crate) fn noted(before: &Trace<Note>, note: &Note) -> Trace<Note>
+    ensures { past_of result.items ≡ with_note (past_of before.now.items) note.now }
+{
+    before.then(note)
 }

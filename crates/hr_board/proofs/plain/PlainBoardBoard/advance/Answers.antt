@@ -6,7 +6,7 @@ use Rattle.hr_board.proofs.plain.PlainBoardBoard.advance.Goals as goal
 
 pub invariant_of-self : goal.invariant_of-self
 invariant_of-self c =
-    rw c.with-self-inside.ensures (lawful-saw _ _ _ _ c.self.invariant (word-at _ _ _ _ _ _ _
+    rw c.noted.ensures (lawful-saw _ _ _ _ c.self.invariant (word-at _ _ _ _ _ _ _
     c.self.view_is c.requires.job c.requires.rev c.place-at.ensures c.index-word.ensures))
 
 pub returns-then-word-old-clause-found : goal.returns-then-word-old-clause-found
@@ -25,4 +25,4 @@ invariant_of-self-2 c =
     c.index-word.ensures c.if-word-old.false
     (subst (λ (m : ℕ). Steps m c.word-new.result) (sym c.word-old.ensures.value)
     (subst (λ (n : ℕ). Steps (word_of c.args.from) n) (sym c.word-new.ensures.value) (steps-move _ _ c.requires.moves)))
-    (λ e low. c.requires.opens (sym c.word-old.ensures.value ∙ e) low) c.with-self-inside-2.ensures
+    (λ e low. c.requires.opens (sym c.word-old.ensures.value ∙ e) low) c.noted-2.ensures

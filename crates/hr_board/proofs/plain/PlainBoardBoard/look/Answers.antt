@@ -4,7 +4,7 @@ use Rattle.hr_board.proofs.plain.PlainBoardBoard.look.Goals as goal
 
 pub invariant_of-self : goal.invariant_of-self
 invariant_of-self c =
-    rw c.with-self-inside.ensures (lawful-saw _ _ _ _ c.self.invariant (word-at _ _ _ _ _ _ _
+    rw c.noted.ensures (lawful-saw _ _ _ _ c.self.invariant (word-at _ _ _ _ _ _ _
     c.self.view_is c.requires.job c.requires.rev c.place-at.ensures c.index-found.ensures))
 
 pub returns-clause-found : goal.returns-clause-found
