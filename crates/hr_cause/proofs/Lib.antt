@@ -1,2 +1,4 @@
-pub mod CallLemmas
-pub mod SourceLemmas
+mod CallLemmas
+mod SendingLemmas
+mod SourceLemmas
+pub mod StreamLaws

@@ -2,7 +2,7 @@
 ghost use Rattle.std.specs.Prelude.{◌≡◌, ◌≤◌, ◌<◌, length, take, None, IfSome, IfOk, OnErr};
 ghost use Rattle.std.specs.Io.KnownBytes.{Appends, ReadConsumes};
 ghost use Rattle.hr_cause.specs.Calls.{counted};
-ghost use Rattle.hr_cause.specs.Stream.{HasCause, Reads, Writes};
+ghost use Rattle.hr_cause.specs.Stream.{FailsByFault, Reads, Writes};
 
 use crate::calls::fault;
 use crate::{Counted, Failed, Sink, Source, Stream};
@@ -37,17 +37,14 @@ impl<R> StdSource<R> {
     {
         StdSource { input, faults: 0 }
     }
-
-    /// How often a read failed.
-    pub fn faults(&self) -> u64
-        ensures { result ≡ self.now.faults }
-    {
-        self.faults
-    }
 }
 
 impl<R: Read + Drop> Counted for StdSource<R> {
     ghost faults = { λ s. s.faults };
+
+    fn faults(&self) -> u64 {
+        self.faults
+    }
 }
 
 impl<R: Read + Drop> Stream for StdSource<R> {
@@ -63,7 +60,7 @@ impl<R: Read + Drop> Source for StdSource<R> {
             result buf.new }
         ensures ok { IfOk result (λ count. Reads None buf.new count None) }
         ensures counted { OnErr result (self.new.faults ≡ counted self.old.faults) }
-        ensures cause { HasCause self.old.faults self.new.faults result }
+        ensures cause { FailsByFault self.old.faults self.new.faults result }
     {
         match self.input.read(buf) {
             Ok(count) => Ok(count),
@@ -100,17 +97,14 @@ impl<W> StdSink<W> {
     {
         StdSink { output, faults: 0 }
     }
-
-    /// How often a write failed.
-    pub fn faults(&self) -> u64
-        ensures { result ≡ self.now.faults }
-    {
-        self.faults
-    }
 }
 
 impl<W: Write + Drop> Counted for StdSink<W> {
     ghost faults = { λ s. s.faults };
+
+    fn faults(&self) -> u64 {
+        self.faults
+    }
 }
 
 impl<W: Write + Drop> Stream for StdSink<W> {
@@ -128,7 +122,7 @@ impl<W: Write + Drop> Sink for StdSink<W> {
             Appends (W.contents self.old.device) (W.contents self.new.device) (take count bytes.now)) }
         ensures ok { IfOk result (λ count. Writes None bytes.now count None) }
         ensures counted { OnErr result (self.new.faults ≡ counted self.old.faults) }
-        ensures cause { HasCause self.old.faults self.new.faults result }
+        ensures cause { FailsByFault self.old.faults self.new.faults result }
     {
         match put(&mut self.output, bytes) {
             Some(count) => Ok(count),

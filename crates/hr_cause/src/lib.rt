@@ -6,11 +6,13 @@ mod calls;
 mod edges;
 mod mem_sink;
 mod mem_source;
+mod sending;
 mod stream;
 
 pub use edges::{StdSink, StdSource};
 pub use mem_sink::MemSink;
 pub use mem_source::MemSource;
+pub use sending::send;
 pub use stream::{Counted, Failed, Sink, Source, Stream};
 
 #[cfg(test)]

@@ -1,8 +1,8 @@
 //! A sink in memory, which keeps what it was sent and fails by a list. (Our own.)
-ghost use Rattle.std.specs.Prelude.{◌≡◌, ◌⊎◌, Some, None, min, [], ◌++◌, length, take, IfOk, IsErr, OnErr, IfSome, IfNone};
+ghost use Rattle.std.specs.Prelude.{◌≡◌, ◌<◌, ◌⊎◌, Some, None, min, [], ◌++◌, length, take, IfOk, IsErr, OnErr, IfSome, IfNone};
 ghost use Rattle.hr_cause.specs.Calls.{IsPlanned};
 ghost use Rattle.hr_cause.specs.MemSink.{WritesTo};
-ghost use Rattle.hr_cause.specs.Stream.{HasCause, Writes};
+ghost use Rattle.hr_cause.specs.Stream.{FailsByFault, Writes};
 
 use crate::calls::Calls;
 use crate::{Counted, Failed, Sink, Stream};
@@ -45,22 +45,27 @@ impl MemSink {
     }
 
     /// The bytes that it was sent, in order.
+    pub fn into_sent(self) -> Vec<u8>
+        ensures { result.items ≡ self.sent }
+    {
+        let MemSink { sent, calls: _ } = self;
+        sent
+    }
+
+    /// The bytes that it was sent, in order.
     pub fn sent(&self) -> &[u8]
         ensures { result.now ≡ self.now.sent }
     {
         self.sent.as_slice()
     }
-
-    /// How often a write failed.
-    pub fn faults(&self) -> u64
-        ensures { result ≡ self.now.faults }
-    {
-        self.calls.faults()
-    }
 }
 
 impl Counted for MemSink {
     ghost faults = { λ s. s.faults };
+
+    fn faults(&self) -> u64 {
+        self.calls.faults()
+    }
 }
 
 impl Stream for MemSink {
@@ -72,14 +77,14 @@ impl Stream for MemSink {
 impl Sink for MemSink {
     /// A write that doesn't fail by the list takes the whole piece. Where there is no memory for
     /// it, it takes the first byte, and where there is none for that either, it fails, which no
-    /// contract can rule out.
+    /// contract can rule out; an empty piece wants none.
     fn write(&mut self, bytes: &[u8]) -> Result<usize, Failed>
         ensures exact { WritesTo self.old bytes.now result self.new }
         ensures planned { IsPlanned self.old.failing self.old.calls → IsErr result }
         ensures ok { IfOk result (λ count.
             Writes (Some self.old.sent) bytes.now count (Some self.new.sent)) }
         ensures err { OnErr result (self.new.sent ≡ self.old.sent) }
-        ensures cause { HasCause self.old.faults self.new.faults result }
+        ensures cause { FailsByFault self.old.faults self.new.faults result }
     {
         self.calls.call()?;
         match keep(&mut self.sent, bytes) {
@@ -91,6 +96,7 @@ impl Sink for MemSink {
 
 // Keeps the piece where there is room for it, else its first byte.
 fn keep(kept: &mut Vec<u8>, bytes: &[u8]) -> Option<usize>
+    ensures some { IfNone result (0 < length bytes.now) }
     ensures taken { IfSome result (λ count.
         (count ≡ length bytes.now) ⊎ (count ≡ min 1 (length bytes.now))) }
     ensures kept { IfSome result (λ count. kept.new.items ≡ kept.old.items ++ take count bytes.now) }

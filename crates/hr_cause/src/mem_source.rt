@@ -1,7 +1,7 @@
 //! A source in memory, which gives its bytes in pieces and fails by a list. (Our own.)
 ghost use Rattle.std.specs.Prelude.{◌≡◌, ◌≤◌, Some, None, length, ◌++◌, take, drop, IfOk, OnErr};
 ghost use Rattle.hr_cause.specs.MemSource.{let_through, ReadsFrom};
-ghost use Rattle.hr_cause.specs.Stream.{HasCause, Reads};
+ghost use Rattle.hr_cause.specs.Stream.{FailsByFault, Reads};
 
 use crate::calls::Calls;
 use crate::{Counted, Failed, Source, Stream};
@@ -58,17 +58,14 @@ impl MemSource {
             calls,
         })
     }
-
-    /// How often a read failed.
-    pub fn faults(&self) -> u64
-        ensures { result ≡ self.now.faults }
-    {
-        self.calls.faults()
-    }
 }
 
 impl Counted for MemSource {
     ghost faults = { λ s. s.faults };
+
+    fn faults(&self) -> u64 {
+        self.calls.faults()
+    }
 }
 
 impl Stream for MemSource {
@@ -84,7 +81,7 @@ impl Source for MemSource {
         ensures ok { IfOk result (λ count.
             Reads (Some self.old.left) buf.new count (Some self.new.left)) }
         ensures err { OnErr result (self.new.left ≡ self.old.left) }
-        ensures cause { HasCause self.old.faults self.new.faults result }
+        ensures cause { FailsByFault self.old.faults self.new.faults result }
     {
         self.calls.call()?;
         let left = behind(self.bytes.view(), self.at);

@@ -3,7 +3,8 @@ use Rattle.std.proofs.Common.{◌≡◌, ◌<◌, ◌≤◌, ◌⊎◌, inl, inr
 use Rattle.std.specs.Cmp.Lexicographic.{pointwise}
 use Rattle.std.proofs.lemmas.Slice.Eq.{bytes_eq-Decides}
 use Rattle.hr_top.specs.Answers.{fault_text, long_text, usage_text}
-use Rattle.hr_top.specs.Command.{IsAny, IsStatus, SentFront, TookFront}
+use Rattle.hr_cause.specs.Stream.{TookFront}
+use Rattle.hr_top.specs.Command.{IsAny, IsStatus, SentFront}
 use Rattle.hr_top.specs.Outcome.{Comes, sent_status_of, text_of, unsent_status_of}
 use Rattle.hr_top.specs.declared.outcome.Outcome.{Outcome}
 use Rattle.hr_top.specs.declared.outcome.Outcome.TheVariants.{Replayed, Usage, Bad, TooLong, Faulted, Memory}

@@ -1,6 +1,6 @@
 -- What one call of `top` does, by its status. (Our own.)
 use Rattle.std.specs.Prelude.{◌≡◌, ◌≢◌, ◌⊎◌, ℕ, List, [], ◌∷◌, ◌++◌, codes, Contains, Option}
-use Rattle.hr_cause.specs.Stream.{Rose, Took}
+use Rattle.hr_cause.specs.Stream.{Rose, Took, TookFront}
 use Rattle.hr_script.specs.declared.refusal.Why.{Why}
 use Rattle.hr_replay.specs.Replay.{IsReplayed}
 use Rattle.hr_replay.specs.Script.{IsBad, LacksTag}
@@ -70,11 +70,6 @@ IsAny words before now faults faults' kept text =
 -- such a text went to the sink
 abbrev pub Sent : (List ℕ → Type 0) → Option (List ℕ) → Option (List ℕ) → Type 0
 Sent P before now = (text : List ℕ) × P text × Took before text now
-
--- a front of this text went to the sink
-abbrev pub TookFront : Option (List ℕ) → List ℕ → Option (List ℕ) → Type 0
-TookFront before text now =
-    (front : List ℕ) × (rest : List ℕ) × (text ≡ front ++ rest) × Took before front now
 
 -- a front of such a text went to the sink
 abbrev pub SentFront : (List ℕ → Type 0) → Option (List ℕ) → Option (List ℕ) → Type 0

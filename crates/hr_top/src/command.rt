@@ -1,17 +1,17 @@
 //! The public call: words and input in, text and state out. (Our own.)
 ghost use Rattle.std.specs.Prelude.{◌≡◌, ◌≤◌, ◌↔◌, ◌⊎◌, IsTrue, List, Option, ℕ, length};
-ghost use Rattle.hr_cause.specs.Stream.{Rose};
+ghost use Rattle.hr_cause.specs.Stream.{Rose, TookFront};
 ghost use Rattle.hr_top.specs.Answers.{memory_text};
-ghost use Rattle.hr_top.specs.Input.{WasRead, script_limit};
+ghost use Rattle.hr_top.specs.Input.{WasRead};
 ghost use Rattle.hr_top.specs.Outcome.{Comes};
-ghost use Rattle.hr_top.specs.Command.{IsAny, IsFaulted, IsNothing, IsRefused, IsReplay, IsStatus, IsUsage, Replayed as IsReplayed, Sent, SentFront, TookFront};
+ghost use Rattle.hr_top.specs.Command.{IsAny, IsFaulted, IsNothing, IsRefused, IsReplay, IsStatus, IsUsage, Replayed as IsReplayed, Sent, SentFront};
 
 use crate::input::{InputRefused, read_input};
 use crate::outcome::Outcome;
-use crate::output::send;
 use hr_base::Bytes;
-use hr_cause::{Failed, Sink, Source};
+use hr_cause::{Failed, Sink, Source, send};
 use hr_replay::{Ending, Refused, Replayed, replay};
+use hr_script::SCRIPT_LIMIT;
 use std::alloc::Global;
 
 /// Runs the command that the words name, and answers the program's status.
@@ -117,7 +117,7 @@ fn is_replay(words: &[Bytes]) -> bool
 
 // Runs a script.
 fn replay_script(alloc: Global, bytes: &[u8], kept: &mut Ending) -> Outcome
-    requires short { length bytes.now ≤ script_limit }
+    requires short { length bytes.now ≤ SCRIPT_LIMIT }
     requires nothing { IsNothing kept.old }
     ensures { (words : List (List ℕ)) (before now : Option (List ℕ)) (faults : ℕ) → IsReplay words
         → WasRead before bytes.now now → Comes result words before now faults faults kept.new }

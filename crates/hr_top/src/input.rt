@@ -1,14 +1,12 @@
 //! Reading an input to its end, or to one byte more than a script may have.
 ghost use Rattle.std.specs.Prelude.{◌≡◌, ◌≤◌, ◌⊎◌, ◌<◌, ◌+◌, ◌++◌, IfOk, IsErrOf, IsOk, OnErr, OnOk, length, vec_len};
-ghost use Rattle.hr_cause.specs.Stream.{Gave, IsEnded, Rose};
+ghost use Rattle.hr_cause.specs.Stream.{Gave, HasCause, IsEnded};
 ghost use Rattle.hr_top.specs.Input.{Appends, IsLong, WasRead};
 
+use hr_base::PIECE;
 use hr_cause::Source;
 use hr_script::SCRIPT_LIMIT;
 use std::alloc::{AllocError, Global};
-
-// How many bytes are asked for at once.
-const PIECE: usize = 65_536;
 
 /// Why an input is not taken.
 #[derive(Clone, Copy, Debug, PartialEq, Eq)]
@@ -26,10 +24,8 @@ pub fn read_input<S: Source>(alloc: Global, input: &mut S) -> Result<Vec<u8>, In
     ensures ok { IfOk result (λ bytes. WasRead (S.left input.old) bytes.items (S.left input.new)) }
     ensures too_long { IsErrOf result InputRefused.TooLong
         → IsLong (S.left input.old) (S.left input.new) }
-    ensures later { S.faults input.old ≤ S.faults input.new }
-    ensures failed { IsErrOf result InputRefused.Failed
-        → Rose (S.faults input.old) (S.faults input.new) }
-    ensures calm { IsErrOf result InputRefused.Failed ⊎ (S.faults input.new ≡ S.faults input.old) }
+    ensures cause { HasCause (λ why. why ≡ InputRefused.Failed) (S.faults input.old)
+        (S.faults input.new) result }
 {
     match make_buffer(alloc) {
         Ok(mut buffer) => read_pieces(alloc, input, &mut buffer),
@@ -53,10 +49,8 @@ fn read_pieces<S: Source>(
     ensures ok { IfOk result (λ bytes. WasRead (S.left input.old) bytes.items (S.left input.new)) }
     ensures too_long { IsErrOf result InputRefused.TooLong
         → IsLong (S.left input.old) (S.left input.new) }
-    ensures later { S.faults input.old ≤ S.faults input.new }
-    ensures failed { IsErrOf result InputRefused.Failed
-        → Rose (S.faults input.old) (S.faults input.new) }
-    ensures calm { IsErrOf result InputRefused.Failed ⊎ (S.faults input.new ≡ S.faults input.old) }
+    ensures cause { HasCause (λ why. why ≡ InputRefused.Failed) (S.faults input.old)
+        (S.faults input.new) result }
 {
     let mut bytes = Vec::new(alloc);
     while bytes.len() <= SCRIPT_LIMIT {
@@ -80,10 +74,8 @@ fn read_piece<S: Source>(
     requires fits { room ≤ length buffer.old }
     ensures ok { IfOk result (λ count. Appends (S.left input.old) bytes.old.items room count
         bytes.new.items (S.left input.new)) }
-    ensures later { S.faults input.old ≤ S.faults input.new }
-    ensures failed { IsErrOf result InputRefused.Failed
-        → Rose (S.faults input.old) (S.faults input.new) }
-    ensures calm { IsErrOf result InputRefused.Failed ⊎ (S.faults input.new ≡ S.faults input.old) }
+    ensures cause { HasCause (λ why. why ≡ InputRefused.Failed) (S.faults input.old)
+        (S.faults input.new) result }
     ensures known { IsErrOf result InputRefused.TooLong → ⊥ }
 {
     let Ok(count) = input.read(&mut buffer[..room]) else {

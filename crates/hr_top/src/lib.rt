@@ -5,7 +5,6 @@
 mod command;
 mod input;
 mod outcome;
-mod output;
 
 pub use command::top;
 pub use hr_replay::{Ending, RegHeld};

@@ -1,5 +1,6 @@
 use Rattle.std.proofs.Common.{List, ℕ, sym, ◌∙◌, subst}
-use Rattle.hr_top.specs.Command.{IsStatus, TookFront}
+use Rattle.hr_cause.specs.Stream.{TookFront}
+use Rattle.hr_top.specs.Command.{IsStatus}
 use Rattle.hr_top.proofs.CommandLemmas.{cut_off_is, sent_status_is}
 use Rattle.hr_top.proofs.command.top.Goals as goal
 
