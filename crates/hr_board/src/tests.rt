@@ -38,7 +38,10 @@ impl Board for RoleBoard {
     }
 
     fn advance(&mut self, job: JobNo, rev: u8, from: Mark, to: Mark) -> Result<(), Mark> {
-        self.board.advance(job, rev, from, to)
+        match self.board.advance(job, rev, from, to) {
+            Ok(()) => Ok(()),
+            Err(found) => Err(found),
+        }
     }
 }
 
