@@ -1,15 +1,20 @@
 -- The texts of a call that runs no script, each a line ended by a line feed. (Our own.)
-use Rattle.std.specs.Prelude.{ℕ, List, codes}
+use Rattle.std.specs.Prelude.{codes}
+use Rattle.hr_base.specs.Bytes.{Text}
 use Rattle.hr_replay.specs.Text.{line}
 
-abbrev pub usage_text : List ℕ
+-- what is said where the words name no command
+abbrev pub usage_text : Text
 usage_text = line (codes "usage: harborrep replay | check FILE | plan FILE P | once FILE P | gen START REPOS | run FILE WORKERS | serve FILE WORKERS PORT")
 
-abbrev pub long_text : List ℕ
+-- what is said of an input that is longer than a script may be
+abbrev pub long_text : Text
 long_text = line (codes "line 0 long")
 
-abbrev pub fault_text : List ℕ
+-- what is said where the input failed
+abbrev pub fault_text : Text
 fault_text = line (codes "fault input")
 
-abbrev pub memory_text : List ℕ
+-- what is said for want of memory
+abbrev pub memory_text : Text
 memory_text = line (codes "memory")
