@@ -7,7 +7,7 @@ use Rattle.hr_event.specs.declared.reference.Fetched.{Fetched}
 use Rattle.hr_event.specs.declared.reference.Reference.{Reference}
 use Rattle.hr_event.specs.declared.reference.Reference.TheVariants as by
 use Rattle.hr_adapter.specs.Content.{Content, Honest, blob_at, manifest_at, tag_at, with_blob, with_manifest, with_tag}
-use Rattle.hr_adapter.specs.Put.{manifest_alone, shown, stored}
+use Rattle.hr_adapter.specs.Put.{manifest_alone, put_under, as_manifest}
 use Rattle.hr_adapter.specs.Reg.{Retagged}
 use Rattle.hr_adapter.proofs.ContentLaws.{blob_at-with_blob-cases, blob_at-with_manifest, blob_at-with_tag, manifest_at-with_blob, manifest_at-with_manifest-same, manifest_at-with_manifest-cases, manifest_at-with_tag, tag_at-with_blob, tag_at-with_manifest, tag_at-with_tag-cases}
 
@@ -90,16 +90,16 @@ Honest-with_tag c r t d there h = record {
 -- a put of a manifest keeps it honest, whether its tag moved or not
 pub Honest-manifest_alone : (c : Content) (r media bytes : List ℕ) → Honest c → Honest (manifest_alone r media bytes c)
 Honest-manifest_alone c r media bytes h =
-    Honest-with_manifest c r (digest_of bytes) (stored media bytes) refl h
+    Honest-with_manifest c r (digest_of bytes) (as_manifest media bytes) refl h
 
-pub Honest-shown : (c : Content) (r : List ℕ) (reference : Reference) (media bytes : List ℕ) → Honest c
-    → Honest (shown r reference media bytes c)
-Honest-shown c r (by.Tag t) media bytes h =
+pub Honest-put_under : (c : Content) (r : List ℕ) (reference : Reference) (media bytes : List ℕ) → Honest c
+    → Honest (put_under r reference media bytes c)
+Honest-put_under c r (by.Tag t) media bytes h =
     Honest-with_tag (manifest_alone r media bytes c) r t (digest_of bytes)
-    (is_some_along (manifest_at (manifest_alone r media bytes c) r (digest_of bytes)) (Some (stored media bytes))
-    (manifest_at-with_manifest-same c r (digest_of bytes) (stored media bytes)) refl)
+    (is_some_along (manifest_at (manifest_alone r media bytes c) r (digest_of bytes)) (Some (as_manifest media bytes))
+    (manifest_at-with_manifest-same c r (digest_of bytes) (as_manifest media bytes)) refl)
     (Honest-manifest_alone c r media bytes h)
-Honest-shown c r (by.Digest d) media bytes h = Honest-manifest_alone c r media bytes h
+Honest-put_under c r (by.Digest d) media bytes h = Honest-manifest_alone c r media bytes h
 
 -- ---- tags that were moved
 

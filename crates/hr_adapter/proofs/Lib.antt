@@ -1,5 +1,5 @@
 pub mod ContentLaws
-pub mod EntryLemmas
+mod EntryLemmas
 pub mod HonestLaws
-pub mod ShownLaws
 pub mod PutLaws
+pub mod ShownLaws

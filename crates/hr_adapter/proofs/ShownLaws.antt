@@ -9,7 +9,7 @@ use Rattle.hr_event.specs.declared.reference.Fetched.{Fetched}
 use Rattle.hr_event.specs.declared.reference.Reference.{Reference}
 use Rattle.hr_event.specs.declared.reference.Reference.TheVariants as by
 use Rattle.hr_adapter.specs.Content.{Content, fetch_at, manifest_at, tag_at, with_blob, with_manifest, with_tag}
-use Rattle.hr_adapter.specs.Put.{manifest_alone, shown, stored}
+use Rattle.hr_adapter.specs.Put.{manifest_alone, put_under, as_manifest}
 use Rattle.hr_adapter.specs.Reg.{AreShown, Row}
 use Rattle.hr_adapter.proofs.ContentLaws.{manifest_at-with_blob, manifest_at-with_manifest-same, manifest_at-with_manifest-cases, manifest_at-with_tag, tag_at-with_blob, tag_at-with_manifest, tag_at-with_tag-same, tag_at-with_tag-cases}
 
@@ -63,21 +63,21 @@ fetch_at-with_tag-cases c r t d q s = elim (tag_at-with_tag-cases c r t d q s) [
 
 -- after a put of a manifest a tag leads to that manifest, in the same repository, or where it led
 pub fetch_at-manifest_alone-cases : (c : Content) (r media bytes q t : List ℕ)
-    → ((q ≡ r) × (fetch_at (manifest_alone r media bytes c) q (by.Tag t) ≡ Some (stored media bytes)))
+    → ((q ≡ r) × (fetch_at (manifest_alone r media bytes c) q (by.Tag t) ≡ Some (as_manifest media bytes)))
     ⊎ (fetch_at (manifest_alone r media bytes c) q (by.Tag t) ≡ fetch_at c q (by.Tag t))
 fetch_at-manifest_alone-cases c r media bytes q t =
-    elim (fetch_at-with_manifest-cases c r (digest_of bytes) (stored media bytes) q t) [
+    elim (fetch_at-with_manifest-cases c r (digest_of bytes) (as_manifest media bytes) q t) [
       | inl at ↦ inl (at.0, at.2)
       | inr is ↦ inr is
     ]
 
-pub fetch_at-shown-cases : (c : Content) (r : List ℕ) (reference : Reference) (media bytes q t : List ℕ)
-    → ((q ≡ r) × (fetch_at (shown r reference media bytes c) q (by.Tag t) ≡ Some (stored media bytes)))
-    ⊎ (fetch_at (shown r reference media bytes c) q (by.Tag t) ≡ fetch_at c q (by.Tag t))
-fetch_at-shown-cases c r (by.Digest d) media bytes q t = fetch_at-manifest_alone-cases c r media bytes q t
-fetch_at-shown-cases c r (by.Tag s) media bytes q t =
+pub fetch_at-put_under-cases : (c : Content) (r : List ℕ) (reference : Reference) (media bytes q t : List ℕ)
+    → ((q ≡ r) × (fetch_at (put_under r reference media bytes c) q (by.Tag t) ≡ Some (as_manifest media bytes)))
+    ⊎ (fetch_at (put_under r reference media bytes c) q (by.Tag t) ≡ fetch_at c q (by.Tag t))
+fetch_at-put_under-cases c r (by.Digest d) media bytes q t = fetch_at-manifest_alone-cases c r media bytes q t
+fetch_at-put_under-cases c r (by.Tag s) media bytes q t =
     elim (fetch_at-with_tag-cases (manifest_alone r media bytes c) r s (digest_of bytes) q t) [
-      | inl at ↦ inl (at.0, at.2 ∙ manifest_at-with_manifest-same c r (digest_of bytes) (stored media bytes))
+      | inl at ↦ inl (at.0, at.2 ∙ manifest_at-with_manifest-same c r (digest_of bytes) (as_manifest media bytes))
       | inr is ↦ elim (fetch_at-manifest_alone-cases c r media bytes q t) [
         | inl at ↦ inl (at.0, is ∙ at.1)
         | inr same ↦ inr (is ∙ same)
@@ -85,13 +85,13 @@ fetch_at-shown-cases c r (by.Tag s) media bytes q t =
     ]
 
 -- a put under a tag: the tag leads to what was put
-pub fetch_at-shown-same : (c : Content) (r t media bytes : List ℕ)
-    → fetch_at (shown r (by.Tag t) media bytes c) r (by.Tag t) ≡ Some (stored media bytes)
-fetch_at-shown-same c r t media bytes =
-    ap (option_and_then (manifest_at (shown r (by.Tag t) media bytes c) r))
+pub fetch_at-put_under-same : (c : Content) (r t media bytes : List ℕ)
+    → fetch_at (put_under r (by.Tag t) media bytes c) r (by.Tag t) ≡ Some (as_manifest media bytes)
+fetch_at-put_under-same c r t media bytes =
+    ap (option_and_then (manifest_at (put_under r (by.Tag t) media bytes c) r))
     (tag_at-with_tag-same (manifest_alone r media bytes c) r t (digest_of bytes))
     ∙ manifest_at-with_tag (manifest_alone r media bytes c) r t (digest_of bytes) r (digest_of bytes)
-    ∙ manifest_at-with_manifest-same c r (digest_of bytes) (stored media bytes)
+    ∙ manifest_at-with_manifest-same c r (digest_of bytes) (as_manifest media bytes)
 
 -- ---- rows
 
@@ -119,24 +119,24 @@ AreShown-with_blob c r d bytes rows h q t =
     (fetch_at-with_blob c r d bytes q t) (h q t)
 
 -- a put adds rows of what was put alone: a row for each tag that now leads to it
-pub AreShown-shown : (c : Content) (r : List ℕ) (reference : Reference) (media bytes : List ℕ) (rows more : List Row)
+pub AreShown-put_under : (c : Content) (r : List ℕ) (reference : Reference) (media bytes : List ℕ) (rows more : List Row)
     → AreShown c rows
-    → ((t : List ℕ) → fetch_at (shown r reference media bytes c) r (by.Tag t) ≡ Some (stored media bytes)
+    → ((t : List ℕ) → fetch_at (put_under r reference media bytes c) r (by.Tag t) ≡ Some (as_manifest media bytes)
     → Contains (rows ++ more) (record { repo = r; tag = t; media = media; bytes = bytes }))
-    → AreShown (shown r reference media bytes c) (rows ++ more)
-AreShown-shown c r reference media bytes rows more h new q t =
-    elim (fetch_at-shown-cases c r reference media bytes q t) [
-      | inl at ↦ if_some_along (HasRow (rows ++ more) q t) (fetch_at (shown r reference media bytes c) q (by.Tag t)) (Some (stored media bytes))
+    → AreShown (put_under r reference media bytes c) (rows ++ more)
+AreShown-put_under c r reference media bytes rows more h new q t =
+    elim (fetch_at-put_under-cases c r reference media bytes q t) [
+      | inl at ↦ if_some_along (HasRow (rows ++ more) q t) (fetch_at (put_under r reference media bytes c) q (by.Tag t)) (Some (as_manifest media bytes))
           at.1
-          (subst (λ (p : List ℕ). HasRow (rows ++ more) p t (stored media bytes)) (sym at.0)
-          (new t (ap (λ p. fetch_at (shown r reference media bytes c) p (by.Tag t)) (sym at.0) ∙ at.1)))
-      | inr is ↦ if_some_along (HasRow (rows ++ more) q t) (fetch_at (shown r reference media bytes c) q (by.Tag t)) (fetch_at c q (by.Tag t)) is
+          (subst (λ (p : List ℕ). HasRow (rows ++ more) p t (as_manifest media bytes)) (sym at.0)
+          (new t (ap (λ p. fetch_at (put_under r reference media bytes c) p (by.Tag t)) (sym at.0) ∙ at.1)))
+      | inr is ↦ if_some_along (HasRow (rows ++ more) q t) (fetch_at (put_under r reference media bytes c) q (by.Tag t)) (fetch_at c q (by.Tag t)) is
           (AreShown-more c rows more h q t)
     ]
 
 pub AreShown-manifest_alone : (c : Content) (r media bytes : List ℕ) (rows more : List Row) → AreShown c rows
-    → ((t : List ℕ) → fetch_at (manifest_alone r media bytes c) r (by.Tag t) ≡ Some (stored media bytes)
+    → ((t : List ℕ) → fetch_at (manifest_alone r media bytes c) r (by.Tag t) ≡ Some (as_manifest media bytes)
     → Contains (rows ++ more) (record { repo = r; tag = t; media = media; bytes = bytes }))
     → AreShown (manifest_alone r media bytes c) (rows ++ more)
 AreShown-manifest_alone c r media bytes rows more h new =
-    AreShown-shown c r (by.Digest (digest_of bytes)) media bytes rows more h new
+    AreShown-put_under c r (by.Digest (digest_of bytes)) media bytes rows more h new

@@ -1,94 +1,106 @@
 -- What a registry holds: repositories, each with blobs and manifests under their digests and with
 -- tags that name manifests (OCI Distribution 1.1, "Definitions").
-use Rattle.std.specs.Prelude.{◌≡◌, ℕ, List, [], Option, IfSome, IsSome, option_map, option_and_then, unwrap_or}
+use Rattle.std.specs.Prelude.{◌≡◌, List, [], Option, IfSome, IsSome, option_map, option_and_then, unwrap_or}
 use Rattle.std.specs.Map.{lookup}
 use Rattle.std.specs.BTreeMap.{insert_entry, is_at}
 use Rattle.std.specs.Cmp.Lexicographic.{slice_cmp}
 use Rattle.std.specs.Ordering.{nat_cmp}
+use Rattle.hr_base.specs.Bytes.{ByteList, Text}
 use Rattle.hr_digest.specs.Digest.{digest_of}
 use Rattle.hr_digest.specs.Order.{digest_cmp}
 use Rattle.hr_digest.specs.declared.digest.Digest.{Digest}
+use Rattle.hr_name.specs.Name.{RepoName}
+use Rattle.hr_name.specs.Tag.{TagName}
 use Rattle.hr_event.specs.declared.reference.Fetched.{Fetched}
 use Rattle.hr_event.specs.declared.reference.Reference.{Reference}
 use Rattle.hr_event.specs.declared.reference.Reference.TheVariants as by
 
+-- a text that a registry keeps beside a tag (our own)
+abbrev pub Label : Type 0
+Label = Text
+
+-- the labels of one tag
+abbrev pub Labels : Type 0
+Labels = List Label
+
 -- what a tag names, and its labels
 pub record Named : Type 0 where
   pub digest : Digest
-  pub labels : List (List ℕ)
+  pub labels : Labels
 
 -- a repository: three finite maps, each seen as its entries in the order of the keys
 pub record Repo : Type 0 where
-  pub blobs : List (Digest × List ℕ)
+  pub blobs : List (Digest × ByteList)
   pub manifests : List (Digest × Fetched)
-  pub tags : List (List ℕ × Named)
+  pub tags : List (TagName × Named)
 
 -- repositories by their names, in byte order
 abbrev pub Content : Type 0
-Content = List (List ℕ × Repo)
+Content = List (RepoName × Repo)
 
 -- a repository that holds nothing
 abbrev pub empty_repo : Repo
 empty_repo = record { blobs = []; manifests = []; tags = [] }
 
--- the repository of that name
-unfoldable pub repo_at : Content → List ℕ → Option Repo
+-- the repository of a name
+unfoldable pub repo_at : Content → RepoName → Option Repo
 repo_at c repo = lookup (is_at (slice_cmp nat_cmp repo)) c
 
--- the bytes of a blob
-unfoldable pub blob_at : Content → List ℕ → Digest → Option (List ℕ)
+-- the bytes of the blob that a repository has under a digest
+unfoldable pub blob_at : Content → RepoName → Digest → Option ByteList
 blob_at c repo d = option_and_then (λ held. lookup (is_at (digest_cmp d)) held.blobs) (repo_at c repo)
 
--- a manifest: its media type and its bytes
-unfoldable pub manifest_at : Content → List ℕ → Digest → Option Fetched
+-- the manifest, media type and bytes, that a repository has under a digest
+unfoldable pub manifest_at : Content → RepoName → Digest → Option Fetched
 manifest_at c repo d = option_and_then (λ held. lookup (is_at (digest_cmp d)) held.manifests) (repo_at c repo)
 
--- what a tag names, with its labels
-unfoldable pub named_at : Content → List ℕ → List ℕ → Option Named
+-- what a tag of a repository names, with the tag's labels
+unfoldable pub named_at : Content → RepoName → TagName → Option Named
 named_at c repo tag = option_and_then (λ held. lookup (is_at (slice_cmp nat_cmp tag)) held.tags) (repo_at c repo)
 
 -- the digest that a tag names, whether its manifest stands there or not
-abbrev pub tag_at : Content → List ℕ → List ℕ → Option Digest
+abbrev pub tag_at : Content → RepoName → TagName → Option Digest
 tag_at c repo tag = option_map (λ named. named.digest) (named_at c repo tag)
 
--- the content with the repository of that name changed; a new one holds nothing before
-abbrev pub with_repo : Content → List ℕ → (Repo → Repo) → Content
+-- the content with the repository of a name changed, which holds nothing before where it is new
+abbrev pub with_repo : Content → RepoName → (Repo → Repo) → Content
 with_repo c repo change = insert_entry (slice_cmp nat_cmp) c repo (change (unwrap_or (repo_at c repo) empty_repo))
 
--- the content with a blob under that digest
-unfoldable pub with_blob : Content → List ℕ → Digest → List ℕ → Content
+-- the content with a blob under a digest
+unfoldable pub with_blob : Content → RepoName → Digest → ByteList → Content
 with_blob c repo d bytes = with_repo c repo
     (λ held. record held { blobs = insert_entry digest_cmp held.blobs d bytes })
 
--- the content with a manifest under that digest
-unfoldable pub with_manifest : Content → List ℕ → Digest → Fetched → Content
+-- the content with a manifest under a digest
+unfoldable pub with_manifest : Content → RepoName → Digest → Fetched → Content
 with_manifest c repo d stored = with_repo c repo
     (λ held. record held { manifests = insert_entry digest_cmp held.manifests d stored })
 
--- the labels that a tag has
-abbrev pub labels_at : Content → List ℕ → List ℕ → List (List ℕ)
+-- the labels that a tag has, which are none where there is no such tag
+abbrev pub labels_at : Content → RepoName → TagName → Labels
 labels_at c repo tag = unwrap_or (option_map (λ named. named.labels) (named_at c repo tag)) []
 
--- the content with that tag naming that digest; its labels stay
-unfoldable pub with_tag : Content → List ℕ → List ℕ → Digest → Content
+-- the content with a tag naming a digest, where the labels of the tag stay
+unfoldable pub with_tag : Content → RepoName → TagName → Digest → Content
 with_tag c repo tag d = with_repo c repo (λ held. record held {
   tags = insert_entry (slice_cmp nat_cmp) held.tags tag (record { digest = d; labels = labels_at c repo tag });
 })
 
 -- the manifest that a reference leads to: a tag leads to one that stands there
-abbrev pub fetch_at : Content → List ℕ → Reference → Option Fetched
+abbrev pub fetch_at : Content → RepoName → Reference → Option Fetched
 fetch_at c repo (by.Tag tag) = option_and_then (manifest_at c repo) (tag_at c repo tag)
 fetch_at c repo (by.Digest d) = manifest_at c repo d
 
 -- the digest of the manifest that a reference leads to
-abbrev pub head_at : Content → List ℕ → Reference → Option Digest
+abbrev pub head_at : Content → RepoName → Reference → Option Digest
 head_at c repo (by.Tag tag) =
     option_and_then (λ d. option_map (λ _. d) (manifest_at c repo d)) (tag_at c repo tag)
 head_at c repo (by.Digest d) = option_map (λ _. d) (manifest_at c repo d)
 
 -- every blob and manifest stands under its own digest, and every tag names a manifest that is there
 pub record Honest (c : Content) : Type 0 where
-  pub blobs : (repo : List ℕ) (d : Digest) → IfSome (blob_at c repo d) (λ bytes. digest_of bytes ≡ d)
-  pub manifests : (repo : List ℕ) (d : Digest)
+  pub blobs : (repo : RepoName) (d : Digest) → IfSome (blob_at c repo d) (λ bytes. digest_of bytes ≡ d)
+  pub manifests : (repo : RepoName) (d : Digest)
       → IfSome (manifest_at c repo d) (λ stored. digest_of stored.bytes ≡ d)
-  pub tags : (repo tag : List ℕ) → IfSome (tag_at c repo tag) (λ d. IsSome (manifest_at c repo d))
+  pub tags : (repo : RepoName) (tag : TagName)
+      → IfSome (tag_at c repo tag) (λ d. IsSome (manifest_at c repo d))

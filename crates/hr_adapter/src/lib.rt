@@ -12,4 +12,4 @@ mod tests;
 
 pub use fault::RegFault;
 pub use listed::{TagNow, Tagged};
-pub use registry::{BLOB_LIMIT, LIST_LIMIT, MANIFEST_LIMIT, Registry};
+pub use registry::{BLOB_LIMIT, LIST_LIMIT, Registry};

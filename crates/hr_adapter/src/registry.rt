@@ -4,19 +4,15 @@ ghost use Rattle.std.specs.Prelude.{◌≡◌, ◌<◌, ◌≤◌, ◌⊎◌, []
 ghost use Rattle.hr_digest.specs.Digest.{digest_of};
 ghost use Rattle.hr_adapter.specs.Content.{blob_at, fetch_at, head_at, with_blob};
 ghost use Rattle.hr_adapter.specs.Listing.{repos_of, tags_of, tags_shown};
-ghost use Rattle.hr_adapter.specs.Media.{IsPlain};
+ghost use Rattle.hr_adapter.specs.Media.{FitsHeader};
 ghost use Rattle.hr_adapter.specs.Reg.{Reg, Asked, Called, Grew, IsSound, changed};
-ghost use Rattle.hr_adapter.specs.Put.{IsOwn, stored, shown, manifest_alone};
+ghost use Rattle.hr_adapter.specs.Put.{IsOwn, manifest_alone, put_under};
 
 use crate::{RegFault, TagNow, Tagged};
-use hr_base::{Bytes, List, Memory};
+use hr_base::{Bytes, List, MANIFEST_LIMIT, Memory};
 use hr_digest::Digest;
 use hr_event::{Fetched, Reference};
 use hr_name::Name;
-
-/// How many bytes a manifest has at most. (Our own; 4 MiB is what registries are asked to take at
-/// least.)
-pub const MANIFEST_LIMIT: u64 = 4_194_304;
 
 /// How many bytes a blob has at most. (Our own.)
 pub const BLOB_LIMIT: u64 = 67_108_864;
@@ -123,14 +119,14 @@ pub trait Registry: Drop {
         bytes: &[u8],
     ) -> Result<(), RegFault>
         requires own { IsOwn reference.now bytes.now }
-        requires plain { IsPlain media.now }
+        requires fits { FitsHeader media.now }
         ensures ok { OnOk result (length bytes.now ≤ MANIFEST_LIMIT) }
         ensures put { OnOk result ((seen self.new).told
-            ≡ changed (shown repo.now reference.now media.now bytes.now) (seen self.old).coming) }
+            ≡ changed (put_under repo.now reference.now media.now bytes.now) (seen self.old).coming) }
         ensures err { OnErr result (((seen self.new).told ≡ (seen self.old).coming)
             ⊎ (((seen self.new).told ≡ changed (manifest_alone repo.now media.now bytes.now) (seen self.old).coming)
             ⊎ ((seen self.new).told
-            ≡ changed (shown repo.now reference.now media.now bytes.now) (seen self.old).coming))) }
+            ≡ changed (put_under repo.now reference.now media.now bytes.now) (seen self.old).coming))) }
         ensures too_long { (len : ℕ) → IsErrOf result (RegFault.TooLong len)
             → (MANIFEST_LIMIT < len) × (len ≡ length bytes.now)
             × ((seen self.new).told ≡ (seen self.old).coming) }

@@ -3,8 +3,8 @@
 ghost use Rattle.std.specs.Prelude.{◌≡◌, ◌≤◌, OnErr, OnOk, false, [], None};
 ghost use Rattle.hr_cause.specs.Stream.{Rose};
 
-use crate::{BLOB_LIMIT, MANIFEST_LIMIT, RegFault, Registry, TagNow, Tagged};
-use hr_base::{Bytes, List, Memory};
+use crate::{BLOB_LIMIT, RegFault, Registry, TagNow, Tagged};
+use hr_base::{Bytes, List, MANIFEST_LIMIT, Memory};
 use hr_digest::Digest;
 use hr_event::{Fetched, Reference};
 use hr_name::Name;

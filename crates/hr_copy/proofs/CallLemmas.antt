@@ -2,14 +2,14 @@
 use Rattle.std.proofs.Common.{◌≡◌, ◌⊎◌, inl, inr, refl, sym, ap, subst, ◌∙◌}
 use Rattle.std.specs.Prelude.{Option, Some, None, IfSome, IsTrue, is_some, Result, Ok, Err, OnOk, OnErr}
 use Rattle.hr_adapter.specs.Content.{Content}
-use Rattle.hr_adapter.specs.Reg.{Asked, Called, IsSound, Reg, Retagged, Told, changed}
+use Rattle.hr_adapter.specs.Reg.{Asked, Called, IsSound, Reg, Retagged, BothOrNeither, changed}
 use Rattle.hr_adapter.specs.declared.fault.RegFault.{RegFault}
 use Rattle.hr_copy.specs.Calls.{Changed, MaybeChanged, Untouched}
 
 pub untouched_itself : (reg : Reg) → Untouched reg reg
 untouched_itself reg = record { ever = refl; tells = refl; quiet = λ calm. (calm, refl) }
 
-same_tells : (told coming : Option Content) → Told Retagged told coming → is_some coming ≡ is_some told
+same_tells : (told coming : Option Content) → BothOrNeither Retagged told coming → is_some coming ≡ is_some told
 same_tells (Some c) (Some d) changes = refl
 same_tells (Some c) None changes = absurd changes
 same_tells None (Some d) changes = absurd changes

@@ -28,11 +28,8 @@ use Rattle.hr_journal.specs.Promise.{Promise}
 use Rattle.hr_journal.specs.Puts.{Does, MaybePut}
 use Rattle.hr_journal.specs.Says.{last, read_under, child_read}
 use Rattle.hr_journal.specs.Still.{IsStill, PutsNoTag}
-use Rattle.hr_journal.proofs.ChangeLemmas.{does_nothing, nothing_puts_no_tag}
-use Rattle.hr_journal.proofs.ClosedLemmas.{closed_made, each_then, stands_closed_grow}
-use Rattle.hr_journal.proofs.GrowsLemmas.{does_grow}
-use Rattle.hr_journal.proofs.LogLemmas.{each_before}
-use Rattle.hr_journal.proofs.PromiseLemmas.{promise_on}
+use Rattle.hr_journal.proofs.ListLaws.{each_then}
+use Rattle.hr_journal.proofs.PromiseLaws.{does_nothing, nothing_puts_no_tag, closed_made, stands_closed_grow, does_grow, each_before, promise_on}
 use Rattle.hr_copy.specs.Going.{Copying, IsReadable, Standing, WereRead, stored_of}
 use Rattle.hr_copy.specs.Outcome.{entry_of}
 use Rattle.hr_copy.proofs.LastLemmas.{last_blob, last_child, read_child, read_moved, read_still}
@@ -134,7 +131,7 @@ read_above turn tag log o newest below opened is now read =
 
 module _ (to : ℕ → List ℕ) (o : Content) (turn : Turn) (repo tag : List ℕ) where
   pub copying_on : (log : List Entry) (view : View) (b c : Content) (what : What)
-      → Does (to turn.job.0) turn.job.0 turn.rev what log b c → PutsNoTag what
+      → Does (to turn.job.0) (entry_of turn what) log b c → PutsNoTag what
       → ((t : List ℕ) → read_under t what ≡ None) → ((d : Digest) → child_read d what ≡ None)
       → Copying to o turn repo tag log view b → Copying to o turn repo tag (entry_of turn what ∷ log) view c
   copying_on log view b c what does none tags kids copying = record {
@@ -150,7 +147,7 @@ module _ (to : ℕ → List ℕ) (o : Content) (turn : Turn) (repo tag : List �
       → ((t : List ℕ) → read_under t what ≡ None) → ((d : Digest) → child_read d what ≡ None)
       → Copying to o turn repo tag log view c → Copying to o turn repo tag (entry_of turn what ∷ log) view c
   copying_still log view c what still tags kids copying =
-      copying_on log view c c what (does_nothing (to turn.job.0) turn.job.0 turn.rev what log c still)
+      copying_on log view c c what (does_nothing (to turn.job.0) (entry_of turn what) log c still)
       (nothing_puts_no_tag what still) tags kids copying
 
   moved_copying : (log : List Entry) (view : View) (c : Content) (at : ℕ) (asked : Need)
@@ -212,7 +209,7 @@ module _ (to : ℕ → List ℕ) (o : Content) (turn : Turn) (repo tag : List �
 
   blob_does : (log : List Entry) (b c : Content) (d : Digest) (bytes : List ℕ) (sure : Bool)
       → to turn.job.0 ≡ repo → digest_of bytes ≡ d → MaybePut sure b c (with_blob b repo d bytes)
-      → Does (to turn.job.0) turn.job.0 turn.rev (PutBlob d sure)
+      → Does (to turn.job.0) (entry_of turn (PutBlob d sure))
       (entry_of turn (GotBlob d (length bytes)) ∷ log) b c
   blob_does log b c d bytes sure placed own does = record {
     bytes = bytes;
@@ -277,7 +274,7 @@ module _ (to : ℕ → List ℕ) (o : Content) (turn : Turn) (repo tag : List �
 
   child_does : (log : List Entry) (b c : Content) (newest : Opened) (d : Digest) (sure : Bool)
       → to turn.job.0 ≡ repo → IsLow log newest d → MaybePut sure b c (with_manifest b repo d (stored_of newest.manifest))
-      → Does (to turn.job.0) turn.job.0 turn.rev (PutChild d sure) log b c
+      → Does (to turn.job.0) (entry_of turn (PutChild d sure)) log b c
   child_does log b c newest d sure placed low does = record {
     stored = stored_of newest.manifest;
     kids = newest.manifest.children;

@@ -10,10 +10,10 @@ use Rattle.hr_event.specs.declared.reference.Reference.TheVariants as by
 use Rattle.hr_event.specs.declared.task.Turn.{Turn}
 use Rattle.hr_adapter.specs.Content.{Content, fetch_at}
 use Rattle.hr_adapter.specs.Reg.{AreShown, IsSound, Reg, Row}
-use Rattle.hr_journal.specs.Promise.{AreRead}
+use Rattle.hr_journal.specs.Promise.{WereShown}
 use Rattle.hr_journal.specs.Still.{ReadsNoTag}
-use Rattle.hr_journal.proofs.LogLemmas.{contains_cases}
-use Rattle.hr_journal.proofs.SourceLemmas.{read_on, read_row}
+use Rattle.hr_journal.proofs.ListLaws.{contains_cases}
+use Rattle.hr_journal.proofs.PromiseLaws.{read_on, read_row}
 use Rattle.hr_copy.specs.Calls.{Untouched}
 use Rattle.hr_copy.specs.Going.{AreFound, Found, Sourced}
 use Rattle.hr_copy.specs.Outcome.{Wrote, entry_of}
@@ -72,7 +72,7 @@ found_read from turn repo tag m log newer before after placed kept told is found
 -- ---- the source showed what was read
 
 read_through : (from : ℕ → List ℕ) (ever : List Row) (turn : Turn) (more : List What) (es : List Entry)
-    → AllByRecursion ReadsNoTag more → AreRead from ever es → AreRead from ever (map (entry_of turn) more ++ es)
+    → AllByRecursion ReadsNoTag more → WereShown from ever es → WereShown from ever (map (entry_of turn) more ++ es)
 read_through from ever turn [] es none read = read
 read_through from ever turn (what ∷ more) es none read =
     read_on from ever (entry_of turn what) (map (entry_of turn) more ++ es) (read_through from ever turn more es none.1 read) none.0
@@ -87,14 +87,14 @@ still_tells P before None same holds = tt
 sourced_kept : (from : ℕ → List ℕ) (log : List Entry) (before after : Reg) → Untouched before after
     → Sourced from log before → Sourced from log after
 sourced_kept from log before after kept sourced =
-    still_tells (AreRead from after.ever log) before.told after.told kept.tells
-    (subst (λ (rows : List Row). IfSome before.told (λ _. AreRead from rows log)) (sym kept.ever) sourced)
+    still_tells (WereShown from after.ever log) before.told after.told kept.tells
+    (subst (λ (rows : List Row). IfSome before.told (λ _. WereShown from rows log)) (sym kept.ever) sourced)
 
 pub sourced_on : (from : ℕ → List ℕ) (turn : Turn) (log newer : List Entry) (before after : Reg)
     → Wrote ReadsNoTag turn log newer → Untouched before after → Sourced from log before → Sourced from newer after
 sourced_on from turn log newer before after wrote kept sourced =
     subst (λ (es : List Entry). Sourced from es after) (sym wrote.joined)
-    (so_told {P = λ _. AreRead from after.ever log} {Q = λ _. AreRead from after.ever (map (entry_of turn) wrote.more ++ log)}
+    (so_told {P = λ _. WereShown from after.ever log} {Q = λ _. WereShown from after.ever (map (entry_of turn) wrote.more ++ log)}
     after.told (λ c. read_through from after.ever turn wrote.more log wrote.each) (sourced_kept from log before after kept sourced))
 
 row_shown : (c : Content) (rows : List Row) (repo tag : List ℕ) (m : Fetched) (held : Option Fetched) → Some m ≡ held
@@ -104,8 +104,8 @@ row_shown c rows repo tag m held is shown =
     subst (λ (h : Option Fetched). IfSome h (λ x. Contains rows (record { repo = repo; tag = tag; media = x.media; bytes = x.bytes }))) (sym is) shown
 
 tag_sourced : (from : ℕ → List ℕ) (rows : List Row) (c : Content) (turn : Turn) (repo tag : List ℕ) (m : Fetched) (es : List Entry)
-    → from turn.job.0 ≡ repo → AreShown c rows → Some m ≡ fetch_at c repo (by.Tag tag) → AreRead from rows es
-    → AreRead from rows (entry_of turn (ReadTag tag m.media m.bytes) ∷ es)
+    → from turn.job.0 ≡ repo → AreShown c rows → Some m ≡ fetch_at c repo (by.Tag tag) → WereShown from rows es
+    → WereShown from rows (entry_of turn (ReadTag tag m.media m.bytes) ∷ es)
 tag_sourced from rows c turn repo tag m es placed shown told read =
     read_row from rows (entry_of turn (ReadTag tag m.media m.bytes)) es tag m.media m.bytes read refl
     (subst (λ (r : List ℕ). Contains rows (record { repo = r; tag = tag; media = m.media; bytes = m.bytes })) (sym placed)
@@ -118,9 +118,9 @@ pub sourced_read : (from : ℕ → List ℕ) (turn : Turn) (repo tag : List ℕ)
     → Sourced from log before → Sourced from newer after
 sourced_read from turn repo tag m log newer before after placed kept sound told is sourced =
     subst (λ (es : List Entry). Sourced from es after) (sym is)
-    (both_told {P = λ _. AreRead from after.ever log}
+    (both_told {P = λ _. WereShown from after.ever log}
     {T = λ c. AreShown c after.ever × (Some m ≡ fetch_at c repo (by.Tag tag))}
-    {Q = λ _. AreRead from after.ever (entry_of turn (ReadTag tag m.media m.bytes) ∷ log)} after.told
+    {Q = λ _. WereShown from after.ever (entry_of turn (ReadTag tag m.media m.bytes) ∷ log)} after.told
     (λ c both read. tag_sourced from after.ever c turn repo tag m log placed both.0 both.1 read)
     (both_told {P = λ c. AreShown c after.ever} {T = λ c. Some m ≡ fetch_at c repo (by.Tag tag)}
     {Q = λ c. AreShown c after.ever × (Some m ≡ fetch_at c repo (by.Tag tag))} after.told

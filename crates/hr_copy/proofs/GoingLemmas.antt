@@ -21,7 +21,7 @@ use Rattle.hr_graph.proofs.LastLemmas.{comes_last}
 use Rattle.hr_journal.specs.Promise.{Promise}
 use Rattle.hr_journal.specs.Says.{last, read_under}
 use Rattle.hr_journal.specs.Still.{IsStill}
-use Rattle.hr_journal.proofs.PromiseLemmas.{promise_on, promise_still}
+use Rattle.hr_journal.proofs.PromiseLaws.{promise_on, promise_still}
 use Rattle.hr_copy.specs.Calls.{Changed, MaybeChanged, Untouched}
 use Rattle.hr_copy.specs.Going.{Copying, Going, IsReadable, Promised, stored_of}
 use Rattle.hr_copy.specs.Outcome.{IsSilent, Wrote, entry_of}

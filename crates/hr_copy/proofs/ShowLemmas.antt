@@ -12,7 +12,7 @@ use Rattle.hr_event.specs.declared.reference.Reference.TheVariants as by
 use Rattle.hr_event.specs.declared.task.Turn.{Turn}
 use Rattle.hr_manifest.specs.Manifest.{Parts}
 use Rattle.hr_adapter.specs.Content.{Content, head_at, with_manifest, with_tag}
-use Rattle.hr_adapter.specs.Put.{manifest_alone, shown}
+use Rattle.hr_adapter.specs.Put.{manifest_alone, put_under}
 use Rattle.hr_adapter.specs.Reg.{Reg}
 use Rattle.hr_graph.specs.Sound.{Asks, HasPassed, IsChain, IsPassed, IsReady, IsSound}
 use Rattle.hr_graph.specs.Walk.{View, newest_manifest}
@@ -23,10 +23,9 @@ use Rattle.hr_graph.proofs.LastLemmas.{comes_last}
 use Rattle.hr_graph.proofs.SoundLemmas.{all_passed}
 use Rattle.hr_journal.specs.Graph.{StandsUnder}
 use Rattle.hr_journal.specs.Promise.{IsPut, Promise}
-use Rattle.hr_journal.specs.Puts.{IsLeft, MayShow, Shows, Stays}
+use Rattle.hr_journal.specs.Puts.{IsLeft, MaybePutTag, PutsTag, LeavesTag}
 use Rattle.hr_journal.specs.Says.{last, read_under}
-use Rattle.hr_journal.proofs.LogLemmas.{each_before}
-use Rattle.hr_journal.proofs.PromiseLemmas.{promise_on, promise_shows_under}
+use Rattle.hr_journal.proofs.PromiseLaws.{each_before, promise_on, promise_shows_under}
 use Rattle.hr_copy.specs.Calls.{IsDecided, ShowsBy, ShowsTold, Untouched}
 use Rattle.hr_copy.specs.Going.{Copying, Going, IsReadable, LastRead, Promised, WereRead, stored_of}
 use Rattle.hr_copy.specs.Outcome.{Decides, entry_of}
@@ -84,9 +83,9 @@ module _ (to : ℕ → List ℕ) (o : Content) (turn : Turn) (repo tag : List �
 
   abbrev root_shows : (view : View) (b c : Content) (d : Digest) (m : Parts) (old : Option Digest) (came : How) → IsRoot view d m
       → to turn.job.0 ≡ repo → old ≡ head_at b repo (by.Tag tag) → (old ≡ Some d → ⊥)
-      → MayShow came b c (with_manifest b repo d (stored_of m)) (with_tag (with_manifest b repo d (stored_of m)) repo tag d)
+      → MaybePutTag came b c (with_manifest b repo d (stored_of m)) (with_tag (with_manifest b repo d (stored_of m)) repo tag d)
       → Copying to o turn repo tag log view b
-      → Shows (to turn.job.0) turn.job.0 turn.rev tag d old came log b c
+      → PutsTag (to turn.job.0) (entry_of turn (Show tag d old came)) tag d old came log b c
   root_shows view b c d m old came root placed looked other does copying = record {
     stored = stored_of root.newest.manifest;
     kids = root.newest.manifest.children;
@@ -95,16 +94,16 @@ module _ (to : ℕ → List ℕ) (o : Content) (turn : Turn) (repo tag : List �
     read = root_read view root.newest root.opened copying.read;
     looked = looked ∙ ap (λ r. head_at b r (by.Tag tag)) (sym placed);
     other = other;
-    does = subst (λ (r : List ℕ). MayShow came b c (with_manifest b r d (stored_of root.newest.manifest))
+    does = subst (λ (r : List ℕ). MaybePutTag came b c (with_manifest b r d (stored_of root.newest.manifest))
         (with_tag (with_manifest b r d (stored_of root.newest.manifest)) r tag d)) (sym placed)
-        (subst (λ (x : Parts). MayShow came b c (with_manifest b repo d (stored_of x)) (with_tag (with_manifest b repo d (stored_of x)) repo tag d))
+        (subst (λ (x : Parts). MaybePutTag came b c (with_manifest b repo d (stored_of x)) (with_tag (with_manifest b repo d (stored_of x)) repo tag d))
         (sym root.manifest) does);
   }
 
   -- the tag was put, or may have been
   shown_promise : (view : View) (b c : Content) (d : Digest) (m : Parts) (old : Option Digest) (came : How) → IsRoot view d m
       → to turn.job.0 ≡ repo → old ≡ head_at b repo (by.Tag tag) → (old ≡ Some d → ⊥) → IsPut came
-      → MayShow came b c (with_manifest b repo d (stored_of m)) (with_tag (with_manifest b repo d (stored_of m)) repo tag d)
+      → MaybePutTag came b c (with_manifest b repo d (stored_of m)) (with_tag (with_manifest b repo d (stored_of m)) repo tag d)
       → Copying to o turn repo tag log view b
       → Promise to o (entry_of turn (Show tag d old came) ∷ log) c
   shown_promise view b c d m old came root placed looked other put does copying =
@@ -130,7 +129,7 @@ module _ (to : ℕ → List ℕ) (o : Content) (turn : Turn) (repo tag : List �
   -- the tag was left as it was
   stays : (b : Content) (d : Digest) (old : Option Digest) (answer : How) → LastRead turn tag log d → to turn.job.0 ≡ repo
       → old ≡ head_at b repo (by.Tag tag) → IsLeft answer d old
-      → Stays (to turn.job.0) turn.job.0 turn.rev tag d old answer log b b
+      → LeavesTag (to turn.job.0) (entry_of turn (Show tag d old answer)) tag d old answer log b b
   stays b d old answer read placed looked left = record {
     stored = read.stored;
     kids = read.kids;
@@ -186,7 +185,7 @@ module _ (to : ℕ → List ℕ) (o : Content) (turn : Turn) (repo tag : List �
   alone_is b d m own = ap (λ k. with_manifest b repo k (stored_of m)) own
 
   shown_is : (b : Content) (d : Digest) (m : Parts) → digest_of m.bytes ≡ d
-      → shown repo (by.Tag tag) m.media m.bytes b ≡ with_tag (with_manifest b repo d (stored_of m)) repo tag d
+      → put_under repo (by.Tag tag) m.media m.bytes b ≡ with_tag (with_manifest b repo d (stored_of m)) repo tag d
   shown_is b d m own = ap (λ k. with_tag (with_manifest b repo k (stored_of m)) repo tag k) own
 
   told_promise : (override : Bool) (came : How) (view : View) (b : Content) (after : Option Content) (d : Digest) (m : Parts) (old : Option Digest)
@@ -197,21 +196,21 @@ module _ (to : ℕ → List ℕ) (o : Content) (turn : Turn) (repo tag : List �
   told_promise override how.Put view b after d m old root placed looked decides does copying =
       let P = Promise to o (entry_of turn (Show tag d old how.Put) ∷ log) in
       let own : digest_of m.bytes ≡ d = ap (λ (x : Parts). digest_of x.bytes) (sym root.manifest) ∙ root.own in
-      same_told P (Some (shown repo (by.Tag tag) m.media m.bytes b)) after does
-      (shown_promise view b (shown repo (by.Tag tag) m.media m.bytes b) d m old how.Put root placed looked decides.0 (inl refl)
+      same_told P (Some (put_under repo (by.Tag tag) m.media m.bytes b)) after does
+      (shown_promise view b (put_under repo (by.Tag tag) m.media m.bytes b) d m old how.Put root placed looked decides.0 (inl refl)
       (shown_is b d m own) copying)
   told_promise override how.Unsure view b after d m old root placed looked decides does copying =
       let P = Promise to o (entry_of turn (Show tag d old how.Unsure) ∷ log) in
       let own : digest_of m.bytes ≡ d = ap (λ (x : Parts). digest_of x.bytes) (sym root.manifest) ∙ root.own in
-      let ends = λ (c : Content) (does : MayShow how.Unsure b c (with_manifest b repo d (stored_of m))
+      let ends = λ (c : Content) (does : MaybePutTag how.Unsure b c (with_manifest b repo d (stored_of m))
       (with_tag (with_manifest b repo d (stored_of m)) repo tag d)).
       shown_promise view b c d m old how.Unsure root placed looked decides.0 (inr refl) does copying in
       elim does [
         | inl is ↦ same_told P (Some b) after is (ends b (inl refl))
         | inr (inl is) ↦ same_told P (Some (manifest_alone repo m.media m.bytes b)) after is
             (ends (manifest_alone repo m.media m.bytes b) (inr (inl (alone_is b d m own))))
-        | inr (inr is) ↦ same_told P (Some (shown repo (by.Tag tag) m.media m.bytes b)) after is
-            (ends (shown repo (by.Tag tag) m.media m.bytes b) (inr (inr (shown_is b d m own))))
+        | inr (inr is) ↦ same_told P (Some (put_under repo (by.Tag tag) m.media m.bytes b)) after is
+            (ends (put_under repo (by.Tag tag) m.media m.bytes b) (inr (inr (shown_is b d m own))))
       ]
   told_promise override how.Same view b after d m old root placed looked decides does copying =
       same_told (Promise to o (entry_of turn (Show tag d old how.Same) ∷ log)) (Some b) after does

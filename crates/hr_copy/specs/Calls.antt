@@ -5,7 +5,7 @@ use Rattle.hr_event.specs.declared.entry.How.TheVariants as how
 use Rattle.hr_event.specs.declared.reference.Reference.{Reference}
 use Rattle.hr_manifest.specs.Manifest.{Parts}
 use Rattle.hr_adapter.specs.Content.{Content}
-use Rattle.hr_adapter.specs.Put.{manifest_alone, shown}
+use Rattle.hr_adapter.specs.Put.{manifest_alone, put_under}
 use Rattle.hr_adapter.specs.Reg.{Reg, changed}
 
 -- it was only read: where it is quiet its content stays
@@ -27,11 +27,11 @@ MaybeChanged change before after = IsTrue before.quiet → IsTrue after.quiet
 -- the manifest was put under the tag, or may have been, by how that came out
 abbrev pub ShowsTold : How → List ℕ → Reference → Parts → Option Content → Option Content → Type 0
 ShowsTold how.Put repo reference parts before after =
-    after ≡ changed (shown repo reference parts.media parts.bytes) before
+    after ≡ changed (put_under repo reference parts.media parts.bytes) before
 ShowsTold how.Unsure repo reference parts before after =
     (after ≡ before)
     ⊎ ((after ≡ changed (manifest_alone repo parts.media parts.bytes) before)
-    ⊎ (after ≡ changed (shown repo reference parts.media parts.bytes) before))
+    ⊎ (after ≡ changed (put_under repo reference parts.media parts.bytes) before))
 ShowsTold how.Same repo reference parts before after = after ≡ before
 ShowsTold how.Kept repo reference parts before after = after ≡ before
 

@@ -19,7 +19,7 @@ use Rattle.hr_adapter.specs.Content.{Content, blob_at, fetch_at}
 use Rattle.hr_adapter.specs.Reg.{Reg}
 use Rattle.hr_journal.specs.Graph.{Closed, Stands}
 use Rattle.hr_journal.specs.OneEach.{OneEach}
-use Rattle.hr_journal.specs.Promise.{AreRead, Promise}
+use Rattle.hr_journal.specs.Promise.{WereShown, Promise}
 use Rattle.hr_journal.specs.Says.{last, read_under, child_read}
 
 -- what a walk has finished stands in the repository, with the graph below it
@@ -75,7 +75,7 @@ pub record GoesOn (before after : View) : Type 0 where
 
 -- each manifest that was read under a tag is one that the source showed, where it tells
 abbrev pub Sourced : (ℕ → List ℕ) → List Entry → Reg → Type 0
-Sourced from log reg = IfSome reg.told (λ _. AreRead from reg.ever log)
+Sourced from log reg = IfSome reg.told (λ _. WereShown from reg.ever log)
 
 -- each manifest that was read under a tag is the one that this content shows under it
 abbrev pub AreFound : (ℕ → List ℕ) → Content → List Entry → Type 0

@@ -61,7 +61,7 @@ impl Cause {
     }
 }
 
-// An equal cause, where there is one.
+/// An equal cause, where there is one.
 pub(crate) fn copy_cause(alloc: Global, cause: &Option<Cause>) -> Result<Option<Cause>, Memory>
     ensures { IfOk result (λ made. made ≡ cause.now) }
 {

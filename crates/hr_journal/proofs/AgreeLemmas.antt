@@ -1,34 +1,36 @@
 -- What a journal says of the destination rests on the repositories of its own jobs alone, so jobs may
 -- be added.
-use Rattle.std.proofs.Common.{◌≡◌, refl, sym, ap, subst, ◌∙◌, ℕ, Bool, cond, List, [], ◌∷◌}
+use Rattle.std.proofs.Common.{sym, subst, ◌∙◌, List, [], ◌∷◌}
 use Rattle.std.specs.Prelude.{Contains}
-use Rattle.std.specs.List.{filter}
 use Rattle.hr_digest.specs.declared.digest.Digest.{Digest}
 use Rattle.hr_event.specs.declared.entry.Entry.{Entry}
 use Rattle.hr_adapter.specs.Content.{Content}
 use Rattle.hr_adapter.specs.Reg.{Row}
-use Rattle.hr_journal.specs.Promise.{AreRead, Promise, WasPut}
+use Rattle.hr_journal.specs.Promise.{WereShown, Promise, WasPut}
 use Rattle.hr_journal.specs.Puts.{Does, Puts}
 use Rattle.hr_journal.specs.Shown.{AreAlike}
-use Rattle.hr_journal.proofs.LogLemmas.{contains_first, contains_later}
+use Rattle.hr_name.specs.Name.{RepoName}
+use Rattle.hr_name.specs.Tag.{TagName}
+use Rattle.hr_journal.specs.Says.{Placement}
+use Rattle.hr_journal.proofs.ListLaws.{contains_later, contains_first}
 
-pub alike_back : (to other : ℕ → List ℕ) (log : List Entry) → AreAlike to other log → AreAlike other to log
+pub alike_back : (to other : Placement) (log : List Entry) → AreAlike to other log → AreAlike other to log
 alike_back to other log alike e logged = sym (alike e logged)
 
-pub alike_before : (to other : ℕ → List ℕ) (e : Entry) (es : List Entry) → AreAlike to other (e ∷ es)
+pub alike_before : (to other : Placement) (e : Entry) (es : List Entry) → AreAlike to other (e ∷ es)
     → AreAlike to other es
 alike_before to other e es alike f logged = alike f (contains_later e es f logged)
 
-pub puts_alike : (to other : ℕ → List ℕ) (o : Content) (log : List Entry) (c : Content)
+pub puts_alike : (to other : Placement) (o : Content) (log : List Entry) (c : Content)
     → AreAlike to other log → Puts to o log c → Puts other o log c
 puts_alike to other o [] c alike puts = puts
 puts_alike to other o (e ∷ es) c alike puts = (
   puts.0,
   puts_alike to other o es puts.0 (alike_before to other e es alike) puts.1,
-  subst (λ (r : List ℕ). Does r e.job.0 e.rev e.what es puts.0 c) (alike e (contains_first e es)) puts.2,
+  subst (λ (r : RepoName). Does r e es puts.0 c) (alike e (contains_first e es)) puts.2,
 )
 
-pub was_alike : (to other : ℕ → List ℕ) (log : List Entry) (repo tag : List ℕ) (d : Digest)
+pub was_alike : (to other : Placement) (log : List Entry) (repo : RepoName) (tag : TagName) (d : Digest)
     → AreAlike to other log → WasPut to log repo tag d → WasPut other log repo tag d
 was_alike to other log repo tag d alike was = record {
   entry = was.entry;
@@ -40,7 +42,7 @@ was_alike to other log repo tag d alike was = record {
   placed = sym (alike was.entry was.logged) ∙ was.placed;
 }
 
-pub promise_alike : (to other : ℕ → List ℕ) (o : Content) (log : List Entry) (c : Content)
+pub promise_alike : (to other : Placement) (o : Content) (log : List Entry) (c : Content)
     → AreAlike to other log → Promise to o log c → Promise other o log c
 promise_alike to other o log c alike promise = record {
   puts = puts_alike to other o log c alike promise.puts;
@@ -49,19 +51,8 @@ promise_alike to other o log c alike promise = record {
       promise.whole each repo tag d names (was_alike other to log repo tag d (alike_back to other log alike) was);
 }
 
-pub read_alike : (from other : ℕ → List ℕ) (ever : List Row) (log : List Entry)
-    → AreAlike from other log → AreRead from ever log → AreRead other ever log
+pub read_alike : (from other : Placement) (ever : List Row) (log : List Entry)
+    → AreAlike from other log → WereShown from ever log → WereShown other ever log
 read_alike from other ever log alike read e tag media bytes logged says =
-    subst (λ (r : List ℕ). Contains ever (record { repo = r; tag = tag; media = media; bytes = bytes }))
+    subst (λ (r : RepoName). Contains ever (record { repo = r; tag = tag; media = media; bytes = bytes }))
     (alike e logged) (read e tag media bytes logged says)
-
--- the entries of one destination, or of one source, are the same where jobs were added
-pub filter_alike : (test other : Entry → Bool) (log : List Entry)
-    → ((e : Entry) → Contains log e → test e ≡ other e) → filter test log ≡ filter other log
-filter_alike test other [] alike = refl
-filter_alike test other (e ∷ es) alike =
-    let first : test e ≡ other e = alike e (contains_first e es) in
-    let rest : filter test es ≡ filter other es =
-    filter_alike test other es (λ f logged. alike f (contains_later e es f logged)) in
-    ap (λ b. cond b (e ∷ filter test es) (filter test es)) first
-    ∙ ap (λ xs. cond (other e) (e ∷ xs) xs) rest

@@ -1,8 +1,8 @@
 -- Whole graphs: that they stay as a content grows, that more levels are allowed where fewer will do,
 -- and how one is made of its children.
-use Rattle.std.proofs.Common.{◌≡◌, inl, inr, refl, ap, subst, ◌∙◌, ℕ, zero, suc, ◌+◌, ◌-◌, ◌≤◌, List, [], ◌∷◌, length, arith}
+use Rattle.std.proofs.Common.{◌≡◌, refl, ap, subst, ◌∙◌, ℕ, zero, suc, ◌+◌, ◌-◌, ◌≤◌, List, length, arith}
 use Rattle.std.specs.Prelude.{Option, Some, None, option_map}
-use Rattle.std.specs.List.{AllByRecursion, Contains}
+use Rattle.std.specs.List.{AllByRecursion}
 use Rattle.hr_digest.specs.declared.digest.Digest.{Digest}
 use Rattle.hr_event.specs.declared.reference.Fetched.{Fetched}
 use Rattle.hr_manifest.specs.Reading.{Reads}
@@ -11,8 +11,9 @@ use Rattle.hr_manifest.specs.declared.child.ChildKind.{ChildKind}
 use Rattle.hr_manifest.specs.declared.child.ChildKind.TheVariants.{Manifest, Blob, Foreign}
 use Rattle.hr_adapter.specs.Content.{Content, manifest_at}
 use Rattle.hr_journal.specs.Graph.{Stands, Graph, Closed, StandsUnder}
-use Rattle.hr_journal.specs.Grows.{Grows, Keeps}
-use Rattle.hr_journal.proofs.LogLemmas.{contains_cases, contains_first, contains_later}
+use Rattle.hr_journal.specs.Grows.{Grows, KeepsManifest}
+use Rattle.hr_name.specs.Name.{RepoName}
+use Rattle.hr_journal.proofs.ListLaws.{each_then}
 
 -- ---- growth upon growth is growth
 
@@ -22,7 +23,7 @@ grows_itself c = record {
   manifests = λ repo d m is. record { stored = m; there = is; bytes = refl; reads = λ kids reads. reads };
 }
 
-keeps_on : (a : Fetched) (b c : Option Fetched) → (first : Keeps a b) → Keeps first.stored c → Keeps a c
+keeps_on : (a : Fetched) (b c : Option Fetched) → (first : KeepsManifest a b) → KeepsManifest first.stored c → KeepsManifest a c
 keeps_on a b c first next = record {
   stored = next.stored;
   there = next.there;
@@ -40,27 +41,7 @@ grows_on a b c first next = record {
 
 -- ---- what stands goes on standing
 
-pub each_then : {X : Type 0} {P Q : X → Type 0} → ((x : X) → P x → Q x) → (xs : List X)
-    → AllByRecursion P xs → AllByRecursion Q xs
-each_then f [] all = tt
-each_then f (x ∷ xs) all = (f x all.0, each_then f xs all.1)
-
--- what holds of each element that the list contains holds of each, and back
-pub each_contained : {X : Type 0} (P : X → Type 0) (xs : List X) → ((x : X) → Contains xs x → P x)
-    → AllByRecursion P xs
-each_contained P [] all = tt
-each_contained P (x ∷ xs) all =
-    (all x (contains_first x xs), each_contained P xs (λ y within. all y (contains_later x xs y within)))
-
-pub contained_each : {X : Type 0} (P : X → Type 0) (xs : List X) → AllByRecursion P xs → (x : X)
-    → Contains xs x → P x
-contained_each P [] all x (k, within, is) = absurd (omega arith)
-contained_each P (y ∷ ys) all x contains = elim (contains_cases y ys x contains) [
-  | inl is ↦ subst (λ (z : _). P z) is all.0
-  | inr later ↦ contained_each P ys all.1 x later
-]
-
-length_kept : (before now : Option Fetched) → ((m : Fetched) → before ≡ Some m → Keeps m now) → (size : ℕ)
+length_kept : (before now : Option Fetched) → ((m : Fetched) → before ≡ Some m → KeepsManifest m now) → (size : ℕ)
     → option_map (λ m. length m.bytes) before ≡ Some size
     → option_map (λ m. length m.bytes) now ≡ Some size
 length_kept (Some m) now keeps size is =
@@ -68,7 +49,7 @@ length_kept (Some m) now keeps size is =
     ap (option_map (λ f. length f.bytes)) kept.there ∙ ap (λ bytes. Some (length bytes)) kept.bytes ∙ is
 length_kept None now keeps size is = cc
 
-pub stands_grow : {P Q : Digest → Type 0} (b c : Content) (repo : List ℕ) → Grows b c
+pub stands_grow : {P Q : Digest → Type 0} (b c : Content) (repo : RepoName) → Grows b c
     → ((d : Digest) → P d → Q d) → (kind : ChildKind) (d : Digest) (size : ℕ)
     → Stands P b repo kind d size → Stands Q c repo kind d size
 stands_grow b c repo grows f Manifest d size stands =
@@ -76,7 +57,7 @@ stands_grow b c repo grows f Manifest d size stands =
 stands_grow b c repo grows f Blob d size stands = grows.blobs repo d size stands
 stands_grow b c repo grows f Foreign d size stands = tt
 
-graph_grow : {P Q : Digest → Type 0} (b c : Content) (repo : List ℕ) → Grows b c
+graph_grow : {P Q : Digest → Type 0} (b c : Content) (repo : RepoName) → Grows b c
     → ((d : Digest) → P d → Q d) → (d : Digest) → Graph P b repo d → Graph Q c repo d
 graph_grow {P} {Q} b c repo grows f d graph =
     let kept = grows.manifests repo d graph.stored graph.there in record {
@@ -90,14 +71,14 @@ graph_grow {P} {Q} b c repo grows f d graph =
           graph.kids graph.each;
     }
 
-pub closed_grow : (n : ℕ) (b c : Content) (repo : List ℕ) → Grows b c → (d : Digest)
+pub closed_grow : (n : ℕ) (b c : Content) (repo : RepoName) → Grows b c → (d : Digest)
     → Closed n b repo d → Closed n c repo d
 closed_grow zero b c repo grows d closed =
     graph_grow {P = λ _. ⊥} {Q = λ _. ⊥} b c repo grows (λ e bad. bad) d closed
 closed_grow (suc n) b c repo grows d closed =
     graph_grow {P = Closed n b repo} {Q = Closed n c repo} b c repo grows (closed_grow n b c repo grows) d closed
 
-pub stands_closed_grow : (n : ℕ) (b c : Content) (repo : List ℕ) → Grows b c
+pub stands_closed_grow : (n : ℕ) (b c : Content) (repo : RepoName) → Grows b c
     → (kind : ChildKind) (d : Digest) (size : ℕ)
     → Stands (Closed n b repo) b repo kind d size → Stands (Closed n c repo) c repo kind d size
 stands_closed_grow n b c repo grows kind d size stands =
@@ -105,50 +86,42 @@ stands_closed_grow n b c repo grows kind d size stands =
 
 -- ---- more levels
 
-pub closed_more : (n : ℕ) (c : Content) (repo : List ℕ) (d : Digest) → Closed n c repo d → Closed (suc n) c repo d
+pub closed_more : (n : ℕ) (c : Content) (repo : RepoName) (d : Digest) → Closed n c repo d → Closed (suc n) c repo d
 closed_more zero c repo d closed =
     graph_grow {P = λ _. ⊥} {Q = Closed zero c repo} c c repo (grows_itself c) (λ e bad. absurd bad) d closed
 closed_more (suc n) c repo d closed =
     graph_grow {P = Closed n c repo} {Q = Closed (suc n) c repo} c c repo (grows_itself c) (closed_more n c repo) d closed
 
-closed_by : (k n m : ℕ) → k + n ≡ m → (c : Content) (repo : List ℕ) (d : Digest) → Closed n c repo d → Closed m c repo d
+closed_by : (k n m : ℕ) → k + n ≡ m → (c : Content) (repo : RepoName) (d : Digest) → Closed n c repo d → Closed m c repo d
 closed_by zero n m sum c repo d closed =
     let same : n ≡ m = omega arith in subst (λ (i : ℕ). Closed i c repo d) same closed
 closed_by (suc k) n m sum c repo d closed = closed_by k (suc n) m (omega arith) c repo d (closed_more n c repo d closed)
 
-pub closed_up : (n m : ℕ) → n ≤ m → (c : Content) (repo : List ℕ) (d : Digest) → Closed n c repo d → Closed m c repo d
+pub closed_up : (n m : ℕ) → n ≤ m → (c : Content) (repo : RepoName) (d : Digest) → Closed n c repo d → Closed m c repo d
 closed_up n m le c repo d closed = closed_by (m - n) n m (omega arith) c repo d closed
 
-pub stands_up : (n m : ℕ) → n ≤ m → (c : Content) (repo : List ℕ) (kind : ChildKind) (d : Digest) (size : ℕ)
+pub stands_up : (n m : ℕ) → n ≤ m → (c : Content) (repo : RepoName) (kind : ChildKind) (d : Digest) (size : ℕ)
     → Stands (Closed n c repo) c repo kind d size → Stands (Closed m c repo) c repo kind d size
 stands_up n m le c repo kind d size stands =
     stands_grow {P = Closed n c repo} {Q = Closed m c repo} c c repo (grows_itself c) (closed_up n m le c repo) kind d size stands
 
 -- ---- made of its children
 
-none_under : (c : Content) (repo : List ℕ) (kind : ChildKind) (d : Digest) (size : ℕ)
+none_under : (c : Content) (repo : RepoName) (kind : ChildKind) (d : Digest) (size : ℕ)
     → StandsUnder zero c repo kind d size → Stands (λ _. ⊥) c repo kind d size
 none_under c repo Manifest d size (h, below, stands) = absurd (omega arith)
 none_under c repo Blob d size stands = stands
 none_under c repo Foreign d size stands = stands
 
-pub stands_under : (n : ℕ) (c : Content) (repo : List ℕ) (kind : ChildKind) (d : Digest) (size : ℕ)
+pub stands_under : (n : ℕ) (c : Content) (repo : RepoName) (kind : ChildKind) (d : Digest) (size : ℕ)
     → StandsUnder (suc n) c repo kind d size → Stands (Closed n c repo) c repo kind d size
 stands_under n c repo Manifest d size (h, below, stands) =
     stands_up h n (omega arith) c repo Manifest d size stands
 stands_under n c repo Blob d size stands = stands
 stands_under n c repo Foreign d size stands = stands
 
-pub stands_under_grow : (n : ℕ) (b c : Content) (repo : List ℕ) → Grows b c
-    → (kind : ChildKind) (d : Digest) (size : ℕ)
-    → StandsUnder n b repo kind d size → StandsUnder n c repo kind d size
-stands_under_grow n b c repo grows Manifest d size (h, below, stands) =
-    (h, below, stands_closed_grow h b c repo grows Manifest d size stands)
-stands_under_grow n b c repo grows Blob d size stands = grows.blobs repo d size stands
-stands_under_grow n b c repo grows Foreign d size stands = stands
-
 -- a manifest whose children stand, each nesting fewer levels, stands whole
-pub closed_made : (n : ℕ) (c : Content) (repo : List ℕ) (d : Digest) (stored : Fetched) (kids : List Child)
+pub closed_made : (n : ℕ) (c : Content) (repo : RepoName) (d : Digest) (stored : Fetched) (kids : List Child)
     → manifest_at c repo d ≡ Some stored → Reads stored.media stored.bytes kids
     → AllByRecursion (λ kid. StandsUnder n c repo kid.kind kid.digest kid.size) kids → Closed n c repo d
 closed_made zero c repo d stored kids there reads each = record {

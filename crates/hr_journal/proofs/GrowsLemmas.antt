@@ -16,10 +16,14 @@ use Rattle.hr_journal.proofs.ChangeLemmas.{Change, does_change}
 use Rattle.hr_journal.proofs.ClosedLemmas.{grows_itself, grows_on}
 use Rattle.hr_journal.proofs.LogLemmas.{each_before}
 use Rattle.hr_journal.proofs.ReadLemmas.{one_reading}
+use Rattle.hr_base.specs.Bytes.{ByteList}
+use Rattle.hr_name.specs.Name.{RepoName}
+use Rattle.hr_name.specs.Tag.{TagName}
+use Rattle.hr_journal.specs.Says.{Placement}
 
 -- ---- one put
 
-pub grows_blob : (b : Content) (repo : List ℕ) (d : Digest) (bytes : List ℕ)
+pub grows_blob : (b : Content) (repo : RepoName) (d : Digest) (bytes : ByteList)
     → ((len : ℕ) → option_map length (blob_at b repo d) ≡ Some len → len ≡ length bytes)
     → Grows b (with_blob b repo d bytes)
 grows_blob b repo d bytes alike = record {
@@ -43,10 +47,10 @@ grows_blob b repo d bytes alike = record {
 same_kids : (before m : Fetched) (kids : List Child) → m.bytes ≡ before.bytes → Reads m.media m.bytes kids
     → (others : List Child) → Reads before.media before.bytes others → Reads m.media m.bytes others
 same_kids before m kids same reads others was =
-    let again : Reads before.media m.bytes others = subst (λ (x : List ℕ). Reads before.media x others) (sym same) was in
+    let again : Reads before.media m.bytes others = subst (λ (x : ByteList). Reads before.media x others) (sym same) was in
     subst (λ (x : List Child). Reads m.media m.bytes x) (one_reading m.media before.media m.bytes kids others reads again) reads
 
-pub grows_manifest : (b : Content) (repo : List ℕ) (d : Digest) (m : Fetched) (kids : List Child)
+pub grows_manifest : (b : Content) (repo : RepoName) (d : Digest) (m : Fetched) (kids : List Child)
     → Reads m.media m.bytes kids
     → ((before : Fetched) → manifest_at b repo d ≡ Some before → before.bytes ≡ m.bytes)
     → Grows b (with_manifest b repo d m)
@@ -63,7 +67,7 @@ grows_manifest b repo d m kids reads alike = record {
   ];
 }
 
-pub grows_tag : (b : Content) (repo tag : List ℕ) (d : Digest) → Grows b (with_tag b repo tag d)
+pub grows_tag : (b : Content) (repo : RepoName) (tag : TagName) (d : Digest) → Grows b (with_tag b repo tag d)
 grows_tag b repo tag d = record {
   blobs = λ q e len is. ap (option_map length) (blob_at-with_tag b repo tag d q e) ∙ is;
   manifests = λ q e m is. record {
@@ -76,9 +80,9 @@ grows_tag b repo tag d = record {
 
 -- ---- one entry
 
-change_grows : (o : Content) (es : List Entry) (repo : List ℕ) (b c : Content) → OneEach o es
-    → ((q : List ℕ) (e : Digest) (x : Fetched) → manifest_at b q e ≡ Some x → Means o es e x.bytes)
-    → ((q : List ℕ) (e : Digest) (n : ℕ) → option_map length (blob_at b q e) ≡ Some n → Measures o es e n)
+change_grows : (o : Content) (es : List Entry) (repo : RepoName) (b c : Content) → OneEach o es
+    → ((q : RepoName) (e : Digest) (x : Fetched) → manifest_at b q e ≡ Some x → Means o es e x.bytes)
+    → ((q : RepoName) (e : Digest) (n : ℕ) → option_map length (blob_at b q e) ≡ Some n → Measures o es e n)
     → Change o es repo b c → Grows b c
 change_grows o es repo b c each means measures (Change.same same) =
     subst (λ (x : Content). Grows b x) (sym same) (grows_itself b)
@@ -95,8 +99,8 @@ change_grows o es repo b c each means measures (Change.shown tag d m kids own me
     (grows_tag (with_manifest b repo d m) repo tag d))
 
 -- what an entry does loses nothing of what the entries before it left
-pub does_grow : (to : ℕ → List ℕ) (o : Content) (e : Entry) (es : List Entry) (b c : Content)
-    → Puts to o es b → Does (to e.job.0) e.job.0 e.rev e.what es b c → OneEach o (e ∷ es) → Grows b c
+pub does_grow : (to : Placement) (o : Content) (e : Entry) (es : List Entry) (b c : Content)
+    → Puts to o es b → Does (to e.job.0) e es b c → OneEach o (e ∷ es) → Grows b c
 does_grow to o e es b c puts does each =
     change_grows o es (to e.job.0) b c (each_before o e es each) (puts_mean to o es b puts) (puts_measure to o es b puts)
-    (does_change o (to e.job.0) e.job.0 e.rev e.what es b c does)
+    (does_change o (to e.job.0) e es b c does)

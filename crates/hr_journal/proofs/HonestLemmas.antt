@@ -1,6 +1,6 @@
 -- Everything goes on standing under its own digest, and each tag goes on naming a manifest that is
 -- there.
-use Rattle.std.proofs.Common.{sym, ap, subst, ℕ, List, [], ◌∷◌}
+use Rattle.std.proofs.Common.{sym, ap, subst, List, [], ◌∷◌}
 use Rattle.std.specs.Option.{is_some}
 use Rattle.hr_event.specs.declared.entry.Entry.{Entry}
 use Rattle.hr_adapter.specs.Content.{Content, Honest, with_manifest}
@@ -8,8 +8,10 @@ use Rattle.hr_adapter.proofs.ContentLaws.{manifest_at-with_manifest-same}
 use Rattle.hr_adapter.proofs.HonestLaws.{Honest-with_blob, Honest-with_manifest, Honest-with_tag}
 use Rattle.hr_journal.specs.Puts.{Puts, Does}
 use Rattle.hr_journal.proofs.ChangeLemmas.{Change, does_change}
+use Rattle.hr_name.specs.Name.{RepoName}
+use Rattle.hr_journal.specs.Says.{Placement}
 
-change_honest : (o : Content) (es : List Entry) (repo : List ℕ) (b c : Content) → Honest b
+change_honest : (o : Content) (es : List Entry) (repo : RepoName) (b c : Content) → Honest b
     → Change o es repo b c → Honest c
 change_honest o es repo b c honest (Change.same same) = subst Honest (sym same) honest
 change_honest o es repo b c honest (Change.blob d bytes own long after) =
@@ -21,12 +23,12 @@ change_honest o es repo b c honest (Change.shown tag d m kids own meant reads af
     (Honest-with_tag (with_manifest b repo d m) repo tag d (ap is_some (manifest_at-with_manifest-same b repo d m))
     (Honest-with_manifest b repo d m own honest))
 
-pub does_honest : (o : Content) (repo : List ℕ) (e : Entry) (es : List Entry) (b c : Content) → Honest b
-    → Does repo e.job.0 e.rev e.what es b c → Honest c
+pub does_honest : (o : Content) (repo : RepoName) (e : Entry) (es : List Entry) (b c : Content) → Honest b
+    → Does repo e es b c → Honest c
 does_honest o repo e es b c honest does =
-    change_honest o es repo b c honest (does_change o repo e.job.0 e.rev e.what es b c does)
+    change_honest o es repo b c honest (does_change o repo e es b c does)
 
-pub puts_honest : (to : ℕ → List ℕ) (o : Content) (log : List Entry) (c : Content) → Honest o
+pub puts_honest : (to : Placement) (o : Content) (log : List Entry) (c : Content) → Honest o
     → Puts to o log c → Honest c
 puts_honest to o [] c honest puts = subst Honest (sym puts) honest
 puts_honest to o (e ∷ es) c honest puts =

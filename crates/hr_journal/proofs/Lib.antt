@@ -1,10 +1,12 @@
-pub mod AgreeLemmas
-pub mod BackLemmas
-pub mod ChangeLemmas
-pub mod ClosedLemmas
-pub mod GrowsLemmas
-pub mod HonestLemmas
-pub mod LogLemmas
-pub mod PromiseLemmas
-pub mod ReadLemmas
-pub mod SourceLemmas
+mod AgreeLemmas
+mod BackLemmas
+mod ChangeLemmas
+mod ClosedLemmas
+mod GrowsLemmas
+mod HonestLemmas
+pub mod ListLaws
+mod LogLemmas
+mod PromiseLemmas
+pub mod PromiseLaws
+mod ReadLemmas
+mod SourceLemmas

@@ -1,5 +1,5 @@
 -- What the entries of a journal say, and what is still said when the journal has one entry more.
-use Rattle.std.proofs.Common.{◌≡◌, ◌⊎◌, inl, inr, refl, ap, ℕ, zero, suc, Bool, true, false, List, [], ◌∷◌, ◌++◌, arith}
+use Rattle.std.proofs.Common.{◌≡◌, ◌⊎◌, inl, inr, refl, ap, ℕ, Bool, true, false, List, [], ◌∷◌}
 use Rattle.std.specs.Prelude.{Option, Some, None, if◌then◌else◌, nat_eq}
 use Rattle.std.specs.List.{Contains}
 use Rattle.std.specs.Option.{option_or}
@@ -14,19 +14,9 @@ use Rattle.hr_event.specs.declared.entry.What.TheVariants.{ReadTag, ReadChild, G
 use Rattle.hr_adapter.specs.Content.{Content}
 use Rattle.hr_journal.specs.Says.{last, is_of, read_under, child_read, blob_read}
 use Rattle.hr_journal.specs.OneEach.{Means, Measures, OneEach}
-
--- ---- one more element at the front of a list
-
-pub contains_later : {X : Type 0} (y : X) (ys : List X) (x : X) → Contains ys x → Contains (y ∷ ys) x
-contains_later y ys x (k, within, is) = (suc k, omega arith, is)
-
-pub contains_first : {X : Type 0} (y : X) (ys : List X) → Contains (y ∷ ys) y
-contains_first y ys = (zero, omega arith, refl)
-
-pub contains_cases : {X : Type 0} (y : X) (ys : List X) (x : X) → Contains (y ∷ ys) x
-    → (y ≡ x) ⊎ Contains ys x
-contains_cases y ys x (zero, within, is) = inl is
-contains_cases y ys x (suc k, within, is) = inr (k, omega arith, is)
+use Rattle.hr_base.specs.Bytes.{ByteList}
+use Rattle.hr_name.specs.Tag.{TagName}
+use Rattle.hr_journal.proofs.ListLaws.{contains_later, contains_first}
 
 -- ---- the newest answer is that of an entry
 
@@ -71,7 +61,7 @@ chosen false x y is = cc
 digest_same : (d e : Digest) → digest_eq d e ≡ true → d ≡ e
 digest_same (Sha256 x) (Sha256 y) is = ap Sha256 ((bytes_decides x y).0 is)
 
-pub read_under_is : (tag : List ℕ) (what : What) (m : Fetched) → read_under tag what ≡ Some m
+pub read_under_is : (tag : TagName) (what : What) (m : Fetched) → read_under tag what ≡ Some m
     → what ≡ ReadTag tag m.media m.bytes
 read_under_is tag (ReadTag t media bytes) m is =
     let parts : (pointwise nat_eq t tag ≡ true) × (record { media = media; bytes = bytes } ≡ m) = chosen (pointwise nat_eq t tag) (record { media = media; bytes = bytes }) m is in
@@ -98,7 +88,7 @@ blob_read_is d what len is = cc
 
 -- ---- what a digest stands for, with one entry more
 
-pub means_later : (o : Content) (e : Entry) (es : List Entry) (d : Digest) (bytes : List ℕ)
+pub means_later : (o : Content) (e : Entry) (es : List Entry) (d : Digest) (bytes : ByteList)
     → Means o es d bytes → Means o (e ∷ es) d bytes
 means_later o e es d bytes (Means.opened repo media there) = Means.opened repo media there
 means_later o e es d bytes (Means.tagged f tag media logged is own) =
@@ -120,7 +110,3 @@ each_before o e es each = record {
   manifests = λ d a b p q. each.manifests d a b (means_later o e es d a p) (means_later o e es d b q);
   blobs = λ d m n p q. each.blobs d m n (measures_later o e es d m p) (measures_later o e es d n q);
 }
-
-pub each_earlier : (o : Content) (more es : List Entry) → OneEach o (more ++ es) → OneEach o es
-each_earlier o [] es each = each
-each_earlier o (e ∷ more) es each = each_earlier o more es (each_before o e (more ++ es) each)

@@ -5,10 +5,11 @@ use Rattle.hr_digest.specs.declared.digest.Digest.{Digest}
 use Rattle.hr_event.specs.declared.reference.Fetched.{Fetched}
 use Rattle.hr_manifest.specs.Reading.{Reads}
 use Rattle.hr_manifest.specs.declared.child.Child.{Child}
+use Rattle.hr_name.specs.Name.{RepoName}
 use Rattle.hr_adapter.specs.Content.{Content, blob_at, manifest_at}
 
 -- what is there now has the bytes of a manifest, and is readable with its children where that was
-pub record Keeps (before : Fetched) (now : Option Fetched) : Type 0 where
+pub record KeepsManifest (before : Fetched) (now : Option Fetched) : Type 0 where
   pub stored : Fetched
   pub there : now ≡ Some stored
   pub bytes : stored.bytes ≡ before.bytes
@@ -17,8 +18,8 @@ pub record Keeps (before : Fetched) (now : Option Fetched) : Type 0 where
 
 -- the second content has all that the first has
 pub record Grows (b c : Content) : Type 0 where
-  pub blobs : (repo : List ℕ) (d : Digest) (len : ℕ)
+  pub blobs : (repo : RepoName) (d : Digest) (len : ℕ)
       → option_map length (blob_at b repo d) ≡ Some len
       → option_map length (blob_at c repo d) ≡ Some len
-  pub manifests : (repo : List ℕ) (d : Digest) (before : Fetched)
-      → manifest_at b repo d ≡ Some before → Keeps before (manifest_at c repo d)
+  pub manifests : (repo : RepoName) (d : Digest) (before : Fetched)
+      → manifest_at b repo d ≡ Some before → KeepsManifest before (manifest_at c repo d)

@@ -5,8 +5,6 @@
 mod laws;
 
 pub use laws::{
-    all_is_accounted_for, all_stays_honest, growth_adds_up, jobs_may_be_added,
-    left_tags_were_looked_at, more_levels_will_do, nothing_is_lost, one_each_before,
-    reading_goes_on, tags_are_complete, tags_were_read, the_promise_goes_on, the_promise_opens,
-    the_promise_shows_a_tag, whole_by_its_children, whole_graphs_stay,
+    all_stays_honest, left_tags_were_looked_at, nothing_is_lost, tags_are_complete, tags_were_read,
+    the_promise_goes_on, the_promise_opens, the_promise_shows_a_tag,
 };

@@ -3,6 +3,10 @@ use Rattle.std.specs.Prelude.{◌≡◌, ◌≢◌, ℕ, List, [], ◌∷◌, �
 use Rattle.std.specs.List.{AllByRecursion}
 use Rattle.hr_name.specs.Alphabet.{stands_in_run}
 
+-- the bytes of a repository's name
+abbrev pub RepoName : Type 0
+RepoName = List ℕ
+
 -- one or more lower-case letters and digits
 pub record IsRun (text : List ℕ) : Type 0 where
   pub some : text ≢ []

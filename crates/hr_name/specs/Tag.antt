@@ -3,6 +3,10 @@ use Rattle.std.specs.Prelude.{◌≡◌, ◌≤◌, ◌==◌, ◌&&◌, if◌the
 use Rattle.std.specs.List.{AllByRecursion}
 use Rattle.hr_name.specs.Alphabet.{begins_tag, goes_on_tag}
 
+-- the bytes of a tag
+abbrev pub TagName : Type 0
+TagName = List ℕ
+
 -- a first byte of `[a-zA-Z0-9_]`, and 0 to 127 bytes of `[a-zA-Z0-9._-]`
 pub record IsTag (text : List ℕ) : Type 0 where
   pub first : ℕ
