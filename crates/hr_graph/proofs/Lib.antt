@@ -1,7 +1,9 @@
+mod AnsweredLemmas
+mod ContainsLemmas
 pub mod GiveLemmas
 pub mod KnownLemmas
 pub mod LastLemmas
-pub mod ListLemmas
-pub mod MeetingLemmas
+mod ListLemmas
+mod MeetingLemmas
 pub mod SoundLemmas
-pub mod StepLemmas
+mod StepLemmas
