@@ -1,5 +1,5 @@
 //! Laws of walks, for the crates above. (Our own.)
-ghost use Rattle.std.specs.Prelude.{◌≡◌, ◌≢◌, ◌⊎◌, List, Ok};
+ghost use Rattle.std.specs.Prelude.{◌≡◌, ◌≢◌, ◌⊎◌, List, [], ◌∷◌, Ok, Err};
 ghost use Rattle.hr_digest.specs.Digest.{digest_of};
 ghost use Rattle.hr_digest.specs.declared.digest.Digest.{Digest};
 ghost use Rattle.hr_manifest.specs.Manifest.{Parts};
@@ -8,8 +8,11 @@ ghost use Rattle.hr_graph.specs.declared.need.Given.{Given};
 ghost use Rattle.hr_graph.specs.declared.need.Given.TheVariants as given;
 ghost use Rattle.hr_graph.specs.declared.need.Need.{Need};
 ghost use Rattle.hr_graph.specs.declared.need.Need.TheVariants as need;
+ghost use Rattle.hr_graph.specs.declared.need.WalkRefused.{WalkRefused};
 ghost use Rattle.hr_graph.specs.declared.opened.Finished.{Finished};
 ghost use Rattle.hr_graph.specs.Answered.{IsAnswered};
+ghost use Rattle.hr_graph.specs.Reached.{AreFromReadings, IsRefusal};
+ghost use Rattle.hr_graph.specs.Run.{Exchange, HasRun, IsOrderly, IsWholeRun, WasGiven, WasTold, exchanged};
 ghost use Rattle.hr_graph.specs.Sound.{ComesLast, IsAttained, IsSound};
 ghost use Rattle.hr_graph.specs.Step.{begun, height_of, outcome};
 ghost use Rattle.hr_graph.specs.Walk.{Answers, View};
@@ -58,4 +61,33 @@ pub fn heights_are_attained()
     ensures { (manifests : List (Digest × Finished)) (children : List Child)
         → (height_of manifests children ≡ 0)
         ⊎ IsAttained manifests children (height_of manifests children) }
+{}
+
+/// A law: while a walk runs, all that it has open or finished is from what it was given.
+pub fn runs_go_over_what_was_given()
+    ensures { (root : Digest) (manifest : Parts) (run : List Exchange) (view : View)
+        → HasRun root manifest run view
+        → AreFromReadings (WasGiven root manifest run) (WasTold run) view }
+{}
+
+/// A law: where a walk refuses to begin or to take an answer, what it was given shows why.
+pub fn refusals_are_shown()
+    ensures begins { (root : Digest) (manifest : Parts) (why : WalkRefused)
+        → digest_of manifest.bytes ≡ root → begun root manifest ≡ Err why
+        → IsRefusal (WasGiven root manifest []) (WasTold []) root why }
+    ensures goes_on { (root : Digest) (manifest : Parts) (run : List Exchange) (view : View)
+        (answer : Given) (why : WalkRefused) → HasRun root manifest run view
+        → Answers view.need answer → outcome view answer ≡ Err why
+        → IsRefusal (WasGiven root manifest (exchanged view.need answer ∷ run))
+        (WasTold (exchanged view.need answer ∷ run)) root why }
+{}
+
+/// A law: a run finishes each pair of kind and digest at most once, each manifest after all that
+/// it lists; once the walk is done, each manifest that was given was put, and the root last.
+pub fn runs_are_orderly()
+    ensures going { (root : Digest) (manifest : Parts) (run : List Exchange) (view : View)
+        → HasRun root manifest run view → IsOrderly root manifest run }
+    ensures done { (root : Digest) (manifest : Parts) (run : List Exchange) (view : View)
+        → HasRun root manifest run view → view.need ≡ need.Done
+        → IsWholeRun root manifest run }
 {}
