@@ -6,6 +6,7 @@ ghost use Rattle.hr_graph.specs.declared.need.Need.TheVariants as need;
 
 use crate::meeting::next_in;
 use crate::opened::{Blobs, Finished, Manifests, Opened, PAIR_LIMIT, height, move_to};
+use crate::seed::RootSeed;
 use crate::{Given, Need, WalkRefused};
 use hr_digest::Digest;
 use hr_manifest::Manifest;
@@ -59,8 +60,8 @@ impl Walk {
             level: 0,
             next: 0,
         })?;
-        let blobs = IndexMap::new(alloc);
-        let manifests = IndexMap::new(alloc);
+        let blobs = IndexMap::with_hasher(alloc, RootSeed::of(root));
+        let manifests = IndexMap::with_hasher(alloc, RootSeed::of(root));
         let next = next_in(&opened, &blobs, &manifests)?;
         move_to(&mut opened, next.at);
         Ok(Walk {
