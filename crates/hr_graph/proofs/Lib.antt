@@ -1,12 +1,13 @@
 mod AnsweredLemmas
 mod ContainsLemmas
-pub mod GiveLemmas
-pub mod KnownLemmas
-pub mod LastLemmas
+mod GiveLemmas
+mod KnownLemmas
+mod LastLemmas
 mod ListLemmas
 mod MeetingLemmas
 mod ReachedLemmas
 pub mod ReachedLaws
 mod RunLemmas
-pub mod SoundLemmas
+mod SoundLemmas
 mod StepLemmas
+pub mod WalkLaws
