@@ -1,7 +1,13 @@
-pub mod GiveLemmas
-pub mod KnownLemmas
-pub mod LastLemmas
-pub mod ListLemmas
-pub mod MeetingLemmas
-pub mod SoundLemmas
-pub mod StepLemmas
+mod AnsweredLemmas
+mod ContainsLemmas
+mod GiveLemmas
+mod KnownLemmas
+mod LastLemmas
+mod ListLemmas
+mod MeetingLemmas
+mod ReachedLemmas
+pub mod ReachedLaws
+mod RunLemmas
+mod SoundLemmas
+mod StepLemmas
+pub mod WalkLaws

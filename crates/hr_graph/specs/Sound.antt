@@ -1,5 +1,5 @@
 -- What holds of a walk at every moment. (Our own.)
-use Rattle.std.specs.Prelude.{◌≡◌, ℕ, ◌+◌, ◌≤◌, ◌<◌, false, List, [], ◌∷◌, length, map, slice_get, take, Some, None, ◌↔◌}
+use Rattle.std.specs.Prelude.{◌≡◌, ℕ, ◌+◌, ◌≤◌, ◌<◌, false, List, [], ◌∷◌, length, map, slice_get, take, Contains, Some, None, ◌↔◌}
 use Rattle.std.specs.List.{AllByRecursion, IsDistinct}
 use Rattle.std.specs.Map.{keys_of}
 use Rattle.hr_digest.specs.declared.digest.Digest.{Digest}
@@ -136,6 +136,15 @@ module _ (blobs : List (Digest × ℕ)) (manifests : List (Digest × Finished)) 
 
   abbrev pub IsBelow : Child → Type 0
   IsBelow child = IsBelowAs child.kind child
+
+-- A height is one more than that of some child that is a manifest and was put.
+pub record IsAttained (manifests : List (Digest × Finished)) (children : List Child) (height : ℕ) : Type 0 where
+  pub child : Child
+  pub within : Contains children child
+  pub kind : child.kind ≡ kind.Manifest
+  pub done : Finished
+  pub there : known child.digest manifests ≡ Some done
+  pub above : height ≡ done.height + 1
 
 -- the newest open manifest comes after all that it lists; it is the root where nothing is below it
 pub record ComesLast (view : View) (digest : Digest) : Type 0 where

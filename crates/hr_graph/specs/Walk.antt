@@ -1,5 +1,5 @@
 -- What contracts see of a walk over the graph of a manifest. (Our own.)
-use Rattle.std.specs.Prelude.{◌≡◌, ℕ, ◌+◌, ◌*◌, ◌-◌, Bool, List, [], ◌∷◌, length, drop, slice_get, Option, Some, None}
+use Rattle.std.specs.Prelude.{◌≡◌, ℕ, ◌+◌, ◌*◌, ◌-◌, Bool, List, [], ◌∷◌, length, drop, slice_get, Option, Some, None, option_map}
 use Rattle.std.specs.List.{list_any}
 use Rattle.std.specs.Map.{lookup}
 use Rattle.hr_digest.specs.declared.digest.Digest.{Digest}
@@ -83,6 +83,8 @@ said_by None = 0
 abbrev pub size_said : Opened → ℕ
 size_said o = said_by (slice_get o.manifest.children o.next)
 
-abbrev pub asked_size : List Opened → ℕ
-asked_size [] = 0
-asked_size (o ∷ below) = size_said o
+-- The size that the descriptor of the next child of the newest open manifest says, where there is
+-- a next child.
+abbrev pub asked_size : List Opened → Option ℕ
+asked_size [] = None
+asked_size (o ∷ below) = option_map (λ child. child.size) (slice_get o.manifest.children o.next)

@@ -6,6 +6,7 @@ mod laws;
 mod meeting;
 mod need;
 mod opened;
+mod seed;
 #[cfg(test)]
 mod tests;
 mod walk;

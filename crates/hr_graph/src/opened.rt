@@ -4,6 +4,7 @@ ghost use Rattle.std.specs.List.{AllByRecursion};
 ghost use Rattle.hr_graph.specs.Meeting.{moved_to};
 ghost use Rattle.hr_graph.specs.Step.{height_of};
 
+use crate::seed::RootSeed;
 use hr_digest::Digest;
 use hr_manifest::{Child, ChildKind, Manifest};
 use indexmap::IndexMap;
@@ -35,10 +36,10 @@ pub struct Finished {
 }
 
 /// The blobs that were found or copied, with their lengths in bytes.
-pub(crate) type Blobs = IndexMap<Digest, u64>;
+pub(crate) type Blobs = IndexMap<Digest, u64, RootSeed>;
 
 /// The manifests that were put.
-pub(crate) type Manifests = IndexMap<Digest, Finished>;
+pub(crate) type Manifests = IndexMap<Digest, Finished, RootSeed>;
 
 // Makes this place the next of the newest open manifest.
 pub(crate) fn move_to(opened: &mut Vec<Opened>, at: usize)

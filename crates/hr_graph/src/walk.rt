@@ -1,10 +1,12 @@
 //! A walk over the graph of a manifest: what is needed next, so that each manifest is put after
 //! all that it lists. (Our own.)
-ghost use Rattle.std.specs.Prelude.{◌≡◌, ◌≢◌, ◌*◌, ◌<◌, ◌≤◌, ◌⊎◌, IfErr, IfOk, OnErr, OnOk, option_map};
+ghost use Rattle.std.specs.Prelude.{◌≡◌, ◌≢◌, ◌*◌, ◌<◌, ◌≤◌, ◌⊎◌, IfErr, IfOk, OnErr, OnOk, Some};
 ghost use Rattle.hr_digest.specs.Digest.{digest_of};
+ghost use Rattle.hr_graph.specs.declared.need.Need.TheVariants as need;
 
 use crate::meeting::next_in;
 use crate::opened::{Blobs, Finished, Manifests, Opened, PAIR_LIMIT, height, move_to};
+use crate::seed::RootSeed;
 use crate::{Given, Need, WalkRefused};
 use hr_digest::Digest;
 use hr_manifest::Manifest;
@@ -58,8 +60,8 @@ impl Walk {
             level: 0,
             next: 0,
         })?;
-        let blobs = IndexMap::new(alloc);
-        let manifests = IndexMap::new(alloc);
+        let blobs = IndexMap::with_hasher(alloc, RootSeed::of(root));
+        let manifests = IndexMap::with_hasher(alloc, RootSeed::of(root));
         let next = next_in(&opened, &blobs, &manifests)?;
         move_to(&mut opened, next.at);
         Ok(Walk {
@@ -78,27 +80,32 @@ impl Walk {
         self.need
     }
 
-    /// The manifest that is to be put, where one is.
-    pub fn putting(&self) -> Option<&Manifest>
-        ensures { option_map (λ m. m.now) result ≡ newest_manifest self.now.need self.now.opened }
+    /// The digest of the manifest that the walk began with.
+    pub fn root(&self) -> Digest
+        ensures { result ≡ self.now.root }
     {
-        match self.need {
-            Need::PutManifest(_) => Some(&self.opened[self.opened.len() - 1].manifest),
-            _ => None,
-        }
+        self.root
     }
 
-    /// The size in bytes that the descriptor of the child that is asked for says, or 0 where a
-    /// manifest is to be put and at the end.
-    pub fn size(&self) -> u64
+    /// The manifest that is to be put.
+    pub fn putting(&self) -> &Manifest
+        requires asked { (digest : Digest) × (self.now.need ≡ need.PutManifest digest) }
+        ensures { Some result.now ≡ newest_manifest self.now.need self.now.opened }
+    {
+        &self.opened[self.opened.len() - 1].manifest
+    }
+
+    /// The size in bytes that the descriptor of the child that is asked for says; none where a
+    /// manifest is to be put, and at the end.
+    pub fn size(&self) -> Option<u64>
         ensures { result ≡ asked_size self.now.opened }
     {
         let Some(newest) = self.opened.last() else {
-            return 0;
+            return None;
         };
         match newest.manifest.children().get(newest.next) {
-            Some(child) => child.size,
-            None => 0,
+            Some(child) => Some(child.size),
+            None => None,
         }
     }
 

@@ -1,9 +1,9 @@
 use Rattle.std.proofs.Common.{◌≡◌, ◌-◌, List, length, reverse, refl, sym, ◌∙◌, ap}
 use Rattle.std.proofs.lemmas.Bool.{ltb-true}
 use Rattle.std.proofs.lemmas.Option.{slice_get_read, slice_get_past}
-use Rattle.std.specs.Prelude.{Option, Some, None, slice_get}
+use Rattle.std.specs.Prelude.{Option, Some, None, option_map, slice_get}
 use Rattle.hr_manifest.specs.declared.child.Child.{Child}
-use Rattle.hr_graph.specs.Walk.{View, asked_size, said_by}
+use Rattle.hr_graph.specs.Walk.{View, asked_size}
 use Rattle.hr_graph.specs.declared.opened.Opened.{Opened}
 use Rattle.hr_graph.proofs.ListLemmas.{reverse_newest}
 use Rattle.hr_graph.proofs.walk.Walk.size.Goals as goal
@@ -11,9 +11,11 @@ use Rattle.hr_graph.proofs.walk.Walk.size.Goals as goal
 -- the size that the newest open manifest says of its next child
 at_newest : (opened seen later : List Opened) (o : Opened) (children : List Child) (found : Option Child)
     → Some o ≡ slice_get seen (length seen - 1) → seen ≡ opened → reverse opened ≡ later
-    → children ≡ o.manifest.children → slice_get children o.next ≡ found → said_by found ≡ asked_size later
+    → children ≡ o.manifest.children → slice_get children o.next ≡ found
+    → option_map (λ child. child.size) found ≡ asked_size later
 at_newest opened seen later o children found last sees is list get =
-    ap said_by (sym get) ∙ ap (λ l. said_by (slice_get l o.next)) list
+    ap (option_map (λ child. child.size)) (sym get)
+    ∙ ap (λ l. option_map (λ child. child.size) (slice_get l o.next)) list
     ∙ sym (ap asked_size (reverse_newest seen o (sym last)))
     ∙ ap (λ l. asked_size (reverse l)) sees ∙ ap asked_size is
 
