@@ -1,17 +1,14 @@
 -- Algorithms as they are read byte by byte, and the colon behind them.
-use Rattle.std.proofs.Common.{◌≡◌, ◌<◌, ◌≤◌, ◌+◌, ◌-◌, ℕ, suc, Bool, true, false, cond, ◌||◌, List, [], ◌∷◌, ◌++◌, length, take, drop, get_or, Some, None, refl, sym, ap, ◌∙◌, subst, arith, length-append, length-drop, append_assoc}
-use Rattle.std.specs.Prelude.{◌==◌, ◌↔◌, if◌then◌else◌, position, not, nat_lt}
-use Rattle.std.specs.List.{AllPass, All, position_or_len}
-use Rattle.std.proofs.lemmas.Bool.{ltb-false}
+use Rattle.std.proofs.Common.{◌≡◌, ◌<◌, ◌≤◌, ℕ, suc, Bool, true, false, cond, ◌||◌, eqb, List, [], ◌∷◌, ◌++◌, length, drop, get_or, Option, Some, refl, sym, ap, ◌∙◌, arith}
+use Rattle.std.specs.Prelude.{◌↔◌, if◌then◌else◌, not}
+use Rattle.std.specs.List.{AllPass, All}
 use Rattle.std.proofs.lemmas.Bool.Decides.{nat_tests}
-use Rattle.std.proofs.lemmas.List.{drop_all, take_all}
+use Rattle.std.proofs.lemmas.List.{drop_all}
 use Rattle.std.proofs.lemmas.List.Elements.{All-append, All-cons, All-head, All-nil, All-same, All-tail, All-weaker}
-use Rattle.std.proofs.lemmas.List.Prefix.{front_rest}
-use Rattle.std.proofs.lemmas.List.Sums.{passes_at_first, prefix_len-le-length, split_at_first}
-use Rattle.std.proofs.lemmas.Bool.{eqb-true}
-use Rattle.std.proofs.lemmas.Option.{cond_some}
-use Rattle.std.proofs.Math.Seq.{drop-cons, take-append_seam}
-use borrow.Author.Tests.{ltb-true}
+use Rattle.std.proofs.Math.Seq.{drop-cons}
+use Rattle.hr_base.specs.Bytes.{Text}
+use Rattle.hr_text.specs.Cutting.{cut_at}
+use Rattle.hr_text.proofs.CutLaws.{cut_at_front}
 use Rattle.hr_digest.specs.Grammar.{HasParts, IsAlgorithm, IsRun, is_component_byte, is_separator}
 use Rattle.hr_digest.specs.Grammar.IsAlgorithm.{One, More}
 
@@ -118,85 +115,35 @@ accepted_not begins text i b below e other wrong kept =
 
 -- ---- the colon
 
-abbrev IsFree : List ℕ → Type 0
-IsFree text = All (λ b. (b == 58) ≡ false) text
+abbrev IsFree : Text → Type 0
+IsFree text = All (λ b. eqb b 58 ≡ false) text
 
-free_component : (b : ℕ) → is_component_byte b ≡ true → (b == 58) ≡ false
+free_component : (b : ℕ) → is_component_byte b ≡ true → eqb b 58 ≡ false
 free_component b is = grind (arith, nat_tests)
 
-free_separator : (b : ℕ) → is_separator b ≡ true → (b == 58) ≡ false
+free_separator : (b : ℕ) → is_separator b ≡ true → eqb b 58 ≡ false
 free_separator b is = grind (arith, nat_tests)
 
-free_run : (text : List ℕ) → IsRun is_component_byte text → IsFree text
-free_run text run = All-weaker (λ b. is_component_byte b ≡ true) (λ b. (b == 58) ≡ false) free_component text run.each
+free_run : (text : Text) → IsRun is_component_byte text → IsFree text
+free_run text run = All-weaker (λ b. is_component_byte b ≡ true) (λ b. eqb b 58 ≡ false) free_component text run.each
 
-algorithm_free : (text : List ℕ) → IsAlgorithm text → IsFree text
+algorithm_free : (text : Text) → IsAlgorithm text → IsFree text
 algorithm_free t (One text run) = free_run text run
 algorithm_free t (More text component separator rest e run sep more) =
-    let free = λ (b : ℕ). (b == 58) ≡ false in
+    let free = λ (b : ℕ). eqb b 58 ≡ false in
     All-same free text (component ++ separator ∷ rest) e
     (All-append free component (separator ∷ rest) (free_run component run)
     (All-cons free separator rest (free_separator separator sep) (algorithm_free rest more)))
 
-colon_at : (front back : List ℕ) → IsFree front → position_or_len (λ b. b == 58) (front ++ 58 ∷ back) ≡ length front
-colon_at [] back free = refl
-colon_at (b ∷ bs) back free =
-    let ih = colon_at bs back (All-tail (λ c. (c == 58) ≡ false) b bs free) in
-    ap (λ (t : Bool). cond (not t) (1 + position_or_len (λ c. c == 58) (bs ++ 58 ∷ back)) 0) (All-head (λ c. (c == 58) ≡ false) b bs free)
-    ∙ omega (arith, ih)
+-- the parts of a text are what stands before its first colon and what stands behind it
+pub parts_cut : (text algorithm encoded : Text) → HasParts text algorithm encoded → cut_at 58 text ≡ (algorithm, Some encoded)
+parts_cut text algorithm encoded parts =
+    ap (cut_at 58) parts.joined ∙ cut_at_front 58 algorithm encoded (algorithm_free algorithm parts.named)
 
--- where the first colon stands in a text that has parts
-pub parts_colon : (text algorithm encoded : List ℕ) → HasParts text algorithm encoded → position_or_len (λ b. b == 58) text ≡ length algorithm
-parts_colon text algorithm encoded parts =
-    ap (position_or_len (λ b. b == 58)) parts.joined ∙ colon_at algorithm encoded (algorithm_free algorithm parts.named)
-
--- a text without a colon has no parts
-pub no_parts : (text : List ℕ) → position (λ b. b == 58) text ≡ None → (algorithm encoded : List ℕ) → HasParts text algorithm encoded → ⊥
-no_parts text none algorithm encoded parts =
-    let at = past (position_or_len (λ b. b == 58) text) (length text) none (prefix_len-le-length (λ b. not (b == 58)) text) in
-    let colon = parts_colon text algorithm encoded parts in
-    let long : length text ≡ length algorithm + length (58 ∷ encoded) = ap length parts.joined ∙ length-append algorithm (58 ∷ encoded) in
-    omega (arith, at, colon, long)
-  where
-    past : (k n : ℕ) → cond (nat_lt k n) (Some k) None ≡ None → k ≤ n → k ≡ n
-    past k n e le = go (nat_lt k n) refl e
-      where
-        go : (t : Bool) → nat_lt k n ≡ t → cond t (Some k) None ≡ None → k ≡ n
-        go true is e' = cc e'
-        go false is e' = omega (arith, ltb-false k n is, le)
-
--- the parts of a text whose first colon stands behind the algorithm
-pub parts_at : (text algorithm encoded : List ℕ) (i : ℕ) → HasParts text algorithm encoded → i ≡ length algorithm
-    → (algorithm ≡ take i text) × (encoded ≡ drop (i + 1) text)
-parts_at text algorithm encoded i parts e =
-    let whole : text ≡ (algorithm ++ 58 ∷ []) ++ encoded = parts.joined ∙ sym (append_assoc algorithm (58 ∷ []) encoded) in
-    let long : length (algorithm ++ 58 ∷ []) ≡ i + 1 = length-append algorithm (58 ∷ []) ∙ omega (arith, e) in (
-      sym (take-append_seam algorithm (58 ∷ encoded)) ∙ ap (λ (k : ℕ). take k (algorithm ++ 58 ∷ encoded)) (sym e) ∙ ap (take i) (sym parts.joined),
-      sym (front_rest text (algorithm ++ 58 ∷ []) encoded whole) ∙ ap (λ (k : ℕ). drop k text) long,
-    )
-
--- the parts of a text whose first colon stands at i
-pub record Cut (text : List ℕ) (i : ℕ) : Type 0 where
-  pub below : i < length text
-  pub back : List ℕ
-  pub back_is : take (length text - (i + 1)) (drop (i + 1) text) ≡ back
-  pub joined : text ≡ take i text ++ 58 ∷ back
-  pub only : (algorithm encoded : List ℕ) → HasParts text algorithm encoded → (algorithm ≡ take i text) × (encoded ≡ back)
-
-pub cut : (text : List ℕ) (i : ℕ) → position (λ b. b == 58) text ≡ Some i → Cut text i
-cut text i is =
-    let p = λ (b : ℕ). b == 58 in
-    let n = position_or_len p text in
-    let at = cond_some (nat_lt n (length text)) n i is in
-    let below : n < length text = ltb-true n (length text) at.0 in
-    let short : i < length text = subst (λ (k : ℕ). k < length text) at.1 below in
-    let colon : get_or text n 0 ≡ 58 = eqb-true (get_or text n 0) 58 (passes_at_first p text 0 below) in
-    record {
-      below = short;
-      back = drop (i + 1) text;
-      back_is = take_all (length text - (i + 1)) (drop (i + 1) text) (omega (arith, length-drop (i + 1) text));
-      joined = split_at_first p text 0 below
-          ∙ ap (λ (c : ℕ). take n text ++ c ∷ drop (n + 1) text) colon
-          ∙ ap (λ (k : ℕ). take k text ++ 58 ∷ drop (k + 1) text) at.1;
-      only = λ algorithm encoded parts. parts_at text algorithm encoded i parts (sym at.1 ∙ parts_colon text algorithm encoded parts);
-    }
+-- a text has its parts in one way
+pub parts_once : (text a x b y : Text) → HasParts text a x → HasParts text b y → (a ≡ b) × (x ≡ y)
+parts_once text a x b y first second =
+    let same : ◌≡◌ {A = Text × Option Text} (a, Some x) (b, Some y) = sym (parts_cut text a x first) ∙ parts_cut text b y second in
+    let behind : ◌≡◌ {A = Option Text} (Some x) (Some y) = ap (λ (p : Text × Option Text). p.1) same in
+    let encoded : x ≡ y = cc behind in
+    (ap (λ (p : Text × Option Text). p.0) same, encoded)

@@ -1,3 +1,2 @@
 mod GrammarLemmas
-mod HexLemmas
 mod ReadingLemmas

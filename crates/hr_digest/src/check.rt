@@ -2,27 +2,27 @@
 ghost use Rattle.std.specs.Prelude.{◌≡◌, [], ◌++◌};
 
 use crate::Digest;
-use crate::fed::Fed;
+use hr_base::Trace;
 use sha2::{Digest as Hasher, Sha256};
 use std::marker::Model;
 
 /// A digest in the making, which contracts see as the list of all the bytes that it was fed. It
 /// takes no memory, however many they are. (The algorithm is SHA-256, FIPS 180-4, section 6.2.)
-#[derive(Debug, Drop)]
+#[derive(Drop)]
 pub struct Check {
     hasher: Sha256,
-    fed: Fed,
+    fed: Trace<u8>,
 }
 
 impl Model for Check {
-    ghost use Rattle.std.specs.Prelude.{ℕ, List};
     ghost use Rattle.sha2.specs.Hashers.{Holds256};
+    ghost use Rattle.hr_base.specs.Bytes.{ByteList};
 
-    ghost Value = { List ℕ };
+    ghost Value = { ByteList };
 
-    ghost view = { λ c. c.fed.bytes };
+    ghost view = { λ c. c.fed.items };
 
-    ghost invariant = { λ c. Holds256 c.hasher c.fed.bytes };
+    ghost invariant = { λ c. Holds256 c.hasher c.fed.items };
 }
 
 impl Check {
@@ -34,7 +34,7 @@ impl Check {
     {
         Check {
             hasher: Sha256::new(),
-            fed: Fed::new(),
+            fed: Trace::new(),
         }
     }
 
@@ -43,7 +43,7 @@ impl Check {
         ensures { self.new ≡ self.old ++ bytes.now }
     {
         self.hasher.update(bytes);
-        self.fed.add(bytes);
+        self.fed = self.fed.then_all(bytes);
     }
 
     /// The digest of all the pieces as one text, however it was cut.

@@ -1,30 +1,25 @@
 //! The parts of a digest's text (OCI Image 1.1, "Descriptors", section "Digests").
-ghost use Rattle.std.specs.Prelude.{◌≡◌, ◌==◌, ◌↔◌, ◌∷◌, ◌++◌, ℕ, List, IsTrue, MatchOption, position};
+ghost use Rattle.std.specs.Prelude.{◌≡◌, ◌↔◌, IsTrue, MatchOption};
+ghost use Rattle.hr_base.specs.Bytes.{Text};
 ghost use Rattle.hr_digest.specs.Grammar.{HasParts, IsAlgorithm, IsRun, is_component_byte, is_encoded_byte, is_separator};
+
+use hr_text::cut;
 
 // The algorithm and the encoded part of a text, where it has them.
 pub(crate) fn split(text: &[u8]) -> Option<(&[u8], &[u8])>
     ensures { MatchOption result
-        ((algorithm encoded : List ℕ) → HasParts text.now algorithm encoded → ⊥)
+        ((algorithm encoded : Text) → HasParts text.now algorithm encoded → ⊥)
         (λ found. HasParts text.now found.0.now found.1.now) }
 {
-    let Some(at) = find_colon(text) else {
+    let (algorithm, behind) = cut(text, b':');
+    let Some(encoded) = behind else {
         return None;
     };
-    let algorithm = &text[..at];
-    let encoded = &text[at + 1..];
     if is_algorithm(algorithm) && is_encoded(encoded) {
         Some((algorithm, encoded))
     } else {
         None
     }
-}
-
-// Where the first colon stands.
-fn find_colon(text: &[u8]) -> Option<usize>
-    ensures { result ≡ position (λ b. b == 58) text.now }
-{
-    text.iter().position(|b| *b == b':')
 }
 
 fn is_algorithm(text: &[u8]) -> bool
@@ -47,7 +42,7 @@ fn is_algorithm(text: &[u8]) -> bool
 fn is_of_component(byte: u8) -> bool
     ensures { result ≡ is_component_byte byte }
 {
-    matches!(byte, b'a'..=b'z' | b'0'..=b'9')
+    byte.is_ascii_lowercase() || byte.is_ascii_digit()
 }
 
 fn separates(byte: u8) -> bool
@@ -60,7 +55,7 @@ fn is_encoded(text: &[u8]) -> bool
     ensures { IsTrue result ↔ IsRun is_encoded_byte text.now }
 {
     !text.is_empty()
-        && text.iter().all(
-            |b| matches!(b, b'a'..=b'z' | b'A'..=b'Z' | b'0'..=b'9' | b'=' | b'_' | b'-'),
-        )
+        && text.iter().all(|b| b.is_ascii_alphabetic()
+            || b.is_ascii_digit()
+            || matches!(b, b'=' | b'_' | b'-'))
 }

@@ -3,7 +3,6 @@
 
 mod check;
 mod digest;
-mod fed;
 mod grammar;
 mod order;
 mod reading;

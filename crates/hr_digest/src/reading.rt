@@ -1,14 +1,14 @@
 //! Digests from their texts (OCI Image 1.1, "Descriptors", section "Digests").
 ghost use Rattle.std.specs.Prelude.{◌≡◌, ◌↔◌, IfOk, IsTrue, MatchOption, codes, length};
-ghost use Rattle.hex.specs.Hex.{encode_lower, IsBytes};
-ghost use Rattle.std.specs.List.{AllPass};
-ghost use Rattle.hr_digest.specs.Reading.{IsDigest, IsForeign, IsHash, IsWhole, is_lower_hex};
+ghost use Rattle.hex.specs.Hex.{IsBytes};
+ghost use Rattle.hr_text.specs.Hexadecimal.{Spells};
+ghost use Rattle.hr_digest.specs.Reading.{IsDigest, IsForeign, IsHash, IsWhole};
 ghost use Rattle.hr_digest.specs.Digest.{text_of_digest};
 ghost use Rattle.hr_digest.specs.declared.digest.Digest.{Digest};
 
 use crate::Digest;
 use crate::grammar::split;
-use hex::decode_to_slice;
+use hr_text::read_hex_to;
 
 /// Why a text is not read as a digest.
 #[derive(Clone, Copy, Debug, PartialEq, Eq)]
@@ -78,21 +78,12 @@ fn is_sha256(algorithm: &[u8]) -> bool
 // The hash that 64 digits of lower-case hexadecimal spell.
 fn read_hash(encoded: &[u8]) -> Option<[u8; 32]>
     ensures { MatchOption result (IsHash encoded.now → ⊥)
-        (λ hash. IsHash encoded.now × IsBytes hash × (encode_lower hash ≡ encoded.now)) }
+        (λ hash. IsHash encoded.now × Spells encoded.now hash) }
 {
-    if encoded.len() != 64 || !are_lower_digits(encoded) {
-        return None;
-    }
     let mut hash = [0u8; 32];
-    match decode_to_slice(encoded, &mut hash) {
-        Ok(()) => Some(hash),
-        // 64 digits are decoded.
-        Err(_) => None,
+    if read_hex_to(encoded, &mut hash) {
+        Some(hash)
+    } else {
+        None
     }
-}
-
-fn are_lower_digits(text: &[u8]) -> bool
-    ensures { IsTrue result ↔ AllPass is_lower_hex text.now }
-{
-    text.iter().all(|b| matches!(b, b'0'..=b'9' | b'a'..=b'f'))
 }

@@ -1,30 +1,58 @@
-ghost use Rattle.std.specs.Prelude.{◌≤◌};
-
 use super::*;
-use std::alloc::{AllocError, Global};
 use std::test::Fail;
 
-// The hashes that FIPS 180-4 gives, as `sha256sum` prints them.
+fn digest_in_pieces(bytes: &[u8], len: usize) -> Digest {
+    let mut check = Check::begin();
+    for piece in bytes.chunks(len.max(1)) {
+        check.feed(piece);
+    }
+    check.feed(b"");
+    check.finish()
+}
+
+// The digests of so many letters `a`, as Python's hashlib gives them.
 #[test]
-fn digests_are_those_of_another_tool(rt: HostRuntime) -> Result<(), Fail> {
-    let alloc = rt.alloc();
-    let cases: [(&[u8], &[u8]); 3] = [
+fn digests_are_those_of_another_tool_however_the_bytes_are_cut(
+    rt: HostRuntime,
+) -> Result<(), Fail> {
+    let letters = [b'a'; 200];
+    let cases: [(usize, &[u8]); 6] = [
         (
-            b"",
+            0,
             b"sha256:e3b0c44298fc1c149afbf4c8996fb92427ae41e4649b934ca495991b7852b855",
         ),
         (
-            b"{}",
-            b"sha256:44136fa355b3678a1146ad16f7e8649e94fb4fc21fe77e8310c060f61caaff8a",
+            63,
+            b"sha256:7d3e74a05d7db15bce4ad9ec0658ea98e3f06eeecf16b4c6fff2da457ddc2f34",
         ),
         (
-            b"abc",
-            b"sha256:ba7816bf8f01cfea414140de5dae2223b00361a396177a9cb410ff61f20015ad",
+            64,
+            b"sha256:ffe054fe7ae0cb6dc65c3af9b61d5209f439851db43d0ba5997337df154668eb",
+        ),
+        (
+            65,
+            b"sha256:635361c48bb9eab14198e76ea8ab7f1a41685d6ad62aa9146d301d4f17eb0ae0",
+        ),
+        (
+            120,
+            b"sha256:2f3d335432c70b580af0e8e1b3674a7c020d683aa5f73aaaedfdc55af904c21c",
+        ),
+        (
+            200,
+            b"sha256:c2a908d98f5df987ade41b5fce213067efbcc21ef2240212a41e54b5e7c28ae5",
         ),
     ];
-    for (bytes, text) in cases {
-        let got = Digest::of(bytes).text(alloc)?;
+    for (count, text) in cases {
+        let bytes = &letters[..count.min(200)];
+        let got = Digest::of(bytes).text(rt.alloc())?;
         assert_eq!(rt; got.view(), text);
+        for len in [1, 63, 64, 65] {
+            assert_eq!(rt;
+                digest_in_pieces(bytes, len),
+                Digest::of(bytes),
+                "{count} by {len}"
+            );
+        }
     }
     Ok(())
 }
@@ -83,66 +111,6 @@ fn texts_are_read_by_the_grammar_of_digests(rt: HostRuntime) {
     }
     let text = b"sha256:ba7816bf8f01cfea414140de5dae2223b00361a396177a9cb410ff61f20015ad";
     assert_eq!(rt; Digest::read(text), Ok(Digest::of(b"abc")));
-}
-
-// The first bytes of 3, 10, 17, .., each 7 above the one before, modulo 256.
-fn sevens(alloc: Global, count: u32) -> Result<Vec<u8>, AllocError>
-    requires { count ≤ 200 }
-{
-    let mut bytes = Vec::new(alloc);
-    for i in 0..count {
-        bytes.push(((i * 7 + 3) % 256) as u8)?;
-    }
-    Ok(bytes)
-}
-
-fn digest_in_pieces(bytes: &[u8], len: usize) -> Digest {
-    let mut check = Check::begin();
-    for piece in bytes.chunks(len.max(1)) {
-        check.feed(piece);
-    }
-    check.feed(b"");
-    check.finish()
-}
-
-// As Python's hashlib gives them.
-#[test]
-fn a_check_gives_one_digest_however_its_bytes_are_cut(rt: HostRuntime) -> Result<(), Fail> {
-    let alloc = rt.alloc();
-    let cases: [(u32, &[u8]); 6] = [
-        (
-            0,
-            b"sha256:e3b0c44298fc1c149afbf4c8996fb92427ae41e4649b934ca495991b7852b855",
-        ),
-        (
-            63,
-            b"sha256:81c80242132f230c3bd41b3e63bbcff16107339549214a99614ff26664625055",
-        ),
-        (
-            64,
-            b"sha256:39e3d7b6b5d075d37d053ad89b24b41bef4f3c29760c84447cab3f3be1882241",
-        ),
-        (
-            65,
-            b"sha256:aacca6ff74fdbb296d165a45cecfa04e5127bc008770fbbdd48006f2d2fae95e",
-        ),
-        (
-            120,
-            b"sha256:7836b787757e95e58b3ca5aec90b1b004e8deba1e50e9675af9cabf1a13a04b5",
-        ),
-        (
-            200,
-            b"sha256:2c7e18c942ef065b526a2d4e5546283749cd3ddfb51d8fc71f42717363685f46",
-        ),
-    ];
-    for (count, text) in cases {
-        let bytes = sevens(alloc, count.min(200))?;
-        for len in [1, 63, 64, 65] {
-            let got = digest_in_pieces(&bytes, len).text(alloc)?;
-            assert_eq!(rt; got.view(), text, "{count} bytes in pieces of {len}");
-        }
-    }
-    Ok(())
 }
 
 fn sends<T: Send>(_value: &T) {}

@@ -1,6 +1,6 @@
 -- Lemmas on the words of specs/Tag.antt.
-use Rattle.std.proofs.Common.{◌≡◌, ◌≢◌, ℕ, ◌+◌, ◌<◌, ◌≤◌, Bool, true, false, ◌&&◌, cond, eqb, ltb, inl, inr, List, [], ◌∷◌, ◌++◌, length, take, get_or, refl, sym, ◌∙◌, subst, arith}
-use Rattle.std.specs.Prelude.{IsTrue, codes}
+use Rattle.std.proofs.Common.{◌≡◌, ◌≢◌, ℕ, suc, ap, ◌+◌, ◌<◌, ◌≤◌, Bool, true, false, ◌&&◌, cond, eqb, ltb, inl, inr, List, [], ◌∷◌, ◌++◌, length, take, get_or, refl, sym, ◌∙◌, subst, arith}
+use Rattle.std.specs.Prelude.{IsTrue, codes, ⊤}
 use Rattle.std.specs.List.{AllByRecursion}
 use Rattle.std.proofs.lemmas.Bool.Decides.{eqb_tells, nat_tests}
 use Rattle.std.proofs.lemmas.List.{append-nil, take_more, length-take-le}
@@ -41,7 +41,7 @@ later-may_stand at byte h m =
 
 -- each byte may stand at its place, counted from here
 abbrev pub StandFrom : ℕ → List ℕ → Type 0
-StandFrom at [] = Unit {0}
+StandFrom at [] = ⊤
 StandFrom at (byte ∷ text) = IsTrue (may_stand at byte) × StandFrom (at + 1) text
 
 rest-stands : (at : ℕ) (text : List ℕ) → 0 < at → at + length text ≤ 128
@@ -67,7 +67,8 @@ whole-stands first rest h s = (h, s)
 
 IsTag-stands : (text : List ℕ) → IsTag text → StandFrom 0 text
 IsTag-stands text t =
-    let short : length t.rest ≤ 127 = t.short in
+    let short : length text ≤ 128 = t.short in
+    let long : length text ≡ suc (length t.rest) = ap length t.whole in
     subst (StandFrom 0) (sym t.whole)
     (whole-stands t.first t.rest t.begins (rest-stands 1 t.rest (omega arith) (omega arith) t.goes_on))
 

@@ -19,14 +19,15 @@ pub struct Name {
 }
 
 impl Model for Name {
-    ghost use Rattle.std.specs.Prelude.{◌≤◌, ℕ, List, length};
-    ghost use Rattle.hr_name.specs.Name.{IsName};
+    ghost use Rattle.std.specs.Prelude.{◌≤◌, length};
+    ghost use Rattle.hr_name.specs.Name.{IsName, RepoName};
+    ghost use Rattle.hr_name.specs.declared.name.TheConstants.{NAME_LIMIT};
 
-    ghost Value = { List ℕ };
+    ghost Value = { RepoName };
 
     ghost view = { λ n. n.bytes };
 
-    ghost invariant = { λ n. IsName n.bytes × (length n.bytes ≤ 255) };
+    ghost invariant = { λ n. IsName n.bytes × (length n.bytes ≤ NAME_LIMIT) };
 }
 
 impl Name {

@@ -9,7 +9,7 @@ use crate::alphabet::stands_in_run;
 
 /// Where the reading of a name stands.
 #[derive(Clone, Copy, Debug, PartialEq, Eq)]
-pub enum Place {
+pub(crate) enum Place {
     /// At the start of a component.
     Start,
     /// Behind a letter or a digit. The text may end here alone.
@@ -25,7 +25,7 @@ pub enum Place {
 }
 
 impl Place {
-    /// The place behind one byte more, or `None` where no name goes on with it.
+    // The place behind one byte more, or `None` where no name goes on with it.
     fn after(self, byte: u8) -> Option<Place>
         ensures { Moves self byte result }
     {
@@ -41,14 +41,14 @@ impl Place {
     }
 }
 
-/// This place behind this one byte alone.
+// This place behind this one byte alone.
 fn one_more(byte: u8, wanted: u8, place: Place) -> Option<Place>
     ensures { result ≡ (if byte == wanted then Some place else None) }
 {
     if byte == wanted { Some(place) } else { None }
 }
 
-/// The place behind a run and a byte that doesn't stand in runs.
+// The place behind a run and a byte that doesn't stand in runs.
 fn after_run(byte: u8) -> Option<Place>
     requires { stands_in_run byte ≡ false }
     ensures { Moves Place.Run byte result }
@@ -63,7 +63,7 @@ fn after_run(byte: u8) -> Option<Place>
 }
 
 /// Where the text leaves the grammar of names, or `None` for a name.
-pub fn name_fault(text: &[u8]) -> Option<usize>
+pub(crate) fn name_fault(text: &[u8]) -> Option<usize>
     ensures { MatchOption result (IsName text.now) (λ at. IsFaultAt IsName text.now at) }
 {
     let mut place = Place::Start;

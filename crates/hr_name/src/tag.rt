@@ -19,10 +19,9 @@ pub struct Tag {
 }
 
 impl Model for Tag {
-    ghost use Rattle.std.specs.Prelude.{ℕ, List};
-    ghost use Rattle.hr_name.specs.Tag.{IsTag};
+    ghost use Rattle.hr_name.specs.Tag.{IsTag, TagName};
 
-    ghost Value = { List ℕ };
+    ghost Value = { TagName };
 
     ghost view = { λ t. t.bytes };
 
@@ -67,7 +66,7 @@ impl Tag {
     }
 }
 
-/// Where the text leaves the grammar of tags, or `None` for a tag.
+// Where the text leaves the grammar of tags, or `None` for a tag.
 fn tag_fault(text: &[u8]) -> Option<usize>
     ensures fault { MatchOption result (IsTag text.now) (λ at. IsFaultAt IsTag text.now at) }
     ensures near { IfSome result (λ at. at ≤ TAG_LIMIT) }
@@ -80,7 +79,7 @@ fn tag_fault(text: &[u8]) -> Option<usize>
     if text.is_empty() { Some(0) } else { None }
 }
 
-/// Whether a tag may have this byte at this place, from 0.
+// Whether a tag may have this byte at this place, from 0.
 fn may_stand(at: usize, byte: u8) -> bool
     ensures { result ≡ may_stand at byte }
 {

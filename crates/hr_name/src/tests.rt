@@ -1,5 +1,16 @@
 use super::*;
+use hr_base::Memory;
 use std::test::Fail;
+
+// The place of a fault, or `None` where the text was read.
+fn fault_of<T: Drop>(read: Result<T, NameRefused>) -> Result<Option<u32>, Memory> {
+    match read {
+        Ok(_) => Ok(None),
+        Err(NameRefused::Shape { at }) => Ok(Some(at)),
+        Err(NameRefused::TooLong { len: _ }) => Ok(Some(u32::MAX)),
+        Err(NameRefused::Memory) => Err(Memory),
+    }
+}
 
 // What the grammar's text says of each: a name, or the place where none goes on.
 #[test]
@@ -40,37 +51,8 @@ fn names_are_read_to_the_exact_place_of_a_fault(rt: HostRuntime) -> Result<(), F
         (b"caf\xc3\xa9", Some(3)),
     ];
     for (text, fault) in cases {
-        match Name::read(alloc, text) {
-            Ok(name) => {
-                assert_eq!(rt; name.view(), text);
-                assert_eq!(rt; fault, None, "{text:?}");
-            }
-            Err(refused) => {
-                let at = fault.ok_or("a name was refused")?;
-                assert_eq!(rt; refused, NameRefused::Shape { at }, "{text:?}");
-            }
-        }
+        assert_eq!(rt; fault_of(Name::read(alloc, text))?, fault, "{text:?}");
     }
-    Ok(())
-}
-
-#[test]
-fn a_name_of_255_bytes_is_read_and_a_longer_text_is_too_long(rt: HostRuntime) -> Result<(), Fail> {
-    let alloc = rt.alloc();
-    let text = vec![in alloc; b'a'; 255]?;
-    assert_eq!(rt;
-        Name::read(alloc, &text).ok().ok_or("refused")?.view(),
-        text.as_slice()
-    );
-    // The length is looked at first, also of a text that is no name.
-    for byte in [b'a', b'-'] {
-        let text = vec![in alloc; byte; 256]?;
-        let refused = Name::read(alloc, &text).err().ok_or("read")?;
-        assert_eq!(rt; refused, NameRefused::TooLong { len: 256 });
-    }
-    let text = vec![in alloc; b'-'; 255]?;
-    let refused = Name::read(alloc, &text).err().ok_or("read")?;
-    assert_eq!(rt; refused, NameRefused::Shape { at: 0 });
     Ok(())
 }
 
@@ -101,16 +83,7 @@ fn tags_are_read_to_the_exact_place_of_a_fault(rt: HostRuntime) -> Result<(), Fa
     for (front, back, fault) in cases {
         let mut text = front.to_vec(alloc)?;
         text.extend_from_slice(back)?;
-        match Tag::read(alloc, &text) {
-            Ok(tag) => {
-                assert_eq!(rt; tag.view(), text.as_slice());
-                assert_eq!(rt; fault, None, "{text:?}");
-            }
-            Err(refused) => {
-                let at = fault.ok_or("a tag was refused")?;
-                assert_eq!(rt; refused, NameRefused::Shape { at }, "{text:?}");
-            }
-        }
+        assert_eq!(rt; fault_of(Tag::read(alloc, &text))?, fault, "{text:?}");
     }
     Ok(())
 }
@@ -120,13 +93,9 @@ fn copies_are_equal_and_the_order_is_that_of_the_bytes(rt: HostRuntime) -> Resul
     let alloc = rt.alloc();
     let name = Name::read(alloc, b"library/alpine").ok().ok_or("refused")?;
     let other = Name::read(alloc, b"library/busybox").ok().ok_or("refused")?;
-    assert_eq!(rt; name.copy(alloc)?, name);
-    assert!(rt; name != other);
-    assert!(rt; name < other);
+    assert!(rt; name.copy(alloc)? == name && name != other && name < other);
     let tag = Tag::read(alloc, b"v10").ok().ok_or("refused")?;
     let later = Tag::read(alloc, b"v9").ok().ok_or("refused")?;
-    assert_eq!(rt; tag.copy(alloc)?, tag);
-    assert!(rt; tag != later);
-    assert!(rt; tag < later);
+    assert!(rt; tag.copy(alloc)? == tag && tag != later && tag < later);
     Ok(())
 }

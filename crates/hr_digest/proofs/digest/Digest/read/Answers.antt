@@ -19,7 +19,7 @@ returns-in-Some-read_hash c =
     let read = c.in-Some-read_hash.ensures in
     let a =
     hash_answer c.args.text.now c.in-Some.algorithm.now c.in-Some.encoded.now c.in-Some-read_hash.hash c.in-Some.ensures
-    (c.is_sha256.ensures.0 c.if-not-is_sha256.false) read.0 read.1 read.2 in
+    (c.is_sha256.ensures.0 c.if-not-is_sha256.false) read.0 read.1 in
     record { ok = a.ok; shape = a.shape; algorithm = a.algorithm; written = a.written }
 
 pub returns-in-None : goal.returns-in-None
