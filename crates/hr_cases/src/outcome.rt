@@ -49,7 +49,7 @@ fn call(
     let status = top(alloc, words, source, sink, &mut kept);
     let sent = sink.sent();
     writeln!(said, "status {status}")?;
-    writeln!(said, "sent {} {}", sent.len(), Plain(sent))?;
+    writeln!(said, "sent {} [{}]", sent.len(), Plain(sent))?;
     writeln!(said, "faults {} {}", source.faults(), sink.faults())?;
     Ok(kept)
 }
