@@ -297,7 +297,7 @@ def of_executions():
     ], ["journal"])
     for count in [8192, 8193]:
         case = Case("there are 16384 jobs at most, two executions of %d" % count)
-        cases.append(case.each(0, count, "image 1 r* v%0A".replace("%0A", "\n")))
+        cases.append(case.each(0, count, "image 1 r* v\n"))
         cases[-1].text("trigger 1\ntrigger 1\n")
     for count in [65536, 65537]:
         case = Case("a repository with %d tags" % count, show=["causes"])
@@ -502,7 +502,7 @@ def of_chance():
     chance = random.Random(20261)
     cases = []
     for at in range(1, 81):
-        show = ["journal", "tags"] if at % 4 == 0 else ["causes", "tags"]
+        show = ["journal", "tags"] if at % 8 == 0 else ["causes", "tags"]
         cases.append(Case("a script from a seed, %d" % at, Maker(chance).script(), show))
     return cases
 

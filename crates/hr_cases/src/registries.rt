@@ -50,7 +50,12 @@ fn write_repository(said: &mut String, repo: &RepoContent) -> Result<(), Memory>
 
 fn write_blobs(said: &mut String, blobs: &[BlobAt]) -> Result<(), Memory> {
     for blob in blobs {
-        writeln!(said, "blob {} {}", Named(blob.digest), Plain(blob.bytes.view()))?;
+        writeln!(
+            said,
+            "blob {} {}",
+            Named(blob.digest),
+            Plain(blob.bytes.view())
+        )?;
     }
     Ok(())
 }
@@ -66,7 +71,12 @@ fn write_manifests(said: &mut String, manifests: &[ManifestAt]) -> Result<(), Me
 // Writes tags with what they name and their labels.
 fn write_named(said: &mut String, tags: &[TagAt]) -> Result<(), Memory> {
     for tag in tags {
-        write!(said, "named {} {}", Plain(tag.tag.view()), Named(tag.digest))?;
+        write!(
+            said,
+            "named {} {}",
+            Plain(tag.tag.view()),
+            Named(tag.digest)
+        )?;
         for label in tag.labels.view() {
             write!(said, " {}", Plain(label.view()))?;
         }

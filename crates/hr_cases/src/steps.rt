@@ -27,7 +27,12 @@ impl fmt::Display for Happened<'_> {
             What::Began => write!(f, "began"),
             What::ReadTag { tag, media, bytes } => {
                 let digest = Named(Digest::of(bytes.view()));
-                write!(f, "read {} {} {digest}", Plain(tag.view()), Plain(media.view()))
+                write!(
+                    f,
+                    "read {} {} {digest}",
+                    Plain(tag.view()),
+                    Plain(media.view())
+                )
             }
             What::Looked { tag, found } => {
                 write!(f, "looked {} {}", Plain(tag.view()), Perhaps(*found))
@@ -55,7 +60,13 @@ impl fmt::Display for Happened<'_> {
                 how,
             } => {
                 let tag = Plain(tag.view());
-                write!(f, "{} {tag} {} {}", word_of(*how), Named(*digest), Perhaps(*old))
+                write!(
+                    f,
+                    "{} {tag} {} {}",
+                    word_of(*how),
+                    Named(*digest),
+                    Perhaps(*old)
+                )
             }
             What::Ended { status, cause } => write!(f, "{} {}", end_of(*status), Why(cause)),
             What::Dropped => write!(f, "dropped"),
