@@ -1,100 +1,143 @@
-//! What happened in copies, in words that tests compare.
+//! What happened in copies, a line for each entry of a journal.
 
-use hr_base::{Memory, Status};
+use crate::digits::{Named, Perhaps, Plain};
+use hr_base::Status;
 use hr_digest::Digest;
 use hr_event::{Cause, Entry, How, Reference, What};
-use std::alloc::Global;
+use std::fmt;
 
-/// A journal in words, a line for each revision that ended. A tag stands behind its `read`.
-pub fn steps(alloc: Global, journal: &[Entry]) -> Result<Vec<u8>, Memory> {
-    let mut text = Vec::new(alloc);
-    for entry in journal {
-        write_step(&mut text, &entry.what)?;
-    }
-    Ok(text)
-}
+/// An entry: the job and the revision, and what happened.
+#[derive(Clone, Copy)]
+pub struct Step<'a>(pub &'a Entry);
 
-fn write_step(text: &mut Vec<u8>, what: &What) -> Result<(), Memory> {
-    text.extend_from_slice(word(what))?;
-    if let What::ReadTag { tag, .. } = what {
-        text.extend_from_slice(tag.view())?;
-        text.extend_from_slice(b" ")?;
-    }
-    Ok(())
-}
-
-fn word(what: &What) -> &'static [u8] {
-    match what {
-        What::Began => b"began ",
-        What::ReadTag { .. } => b"read ",
-        What::Looked { .. } => b"looked ",
-        What::ReadChild { .. } => b"child ",
-        What::HasBlob { len: None, .. } => b"lacks ",
-        What::HasBlob { .. } => b"has ",
-        What::GotBlob { .. } => b"got ",
-        What::PutBlob { .. } => b"put ",
-        What::PutChild { .. } => b"raised ",
-        What::Show { how, .. } => word_of(*how),
-        What::Ended { status, .. } => end_of(*status),
-        What::Dropped => b"dropped ",
+impl fmt::Display for Step<'_> {
+    fn fmt<W: fmt::Write>(&self, f: &mut fmt::Formatter<W>) -> fmt::Result {
+        let Entry { job, rev, what } = self.0;
+        write!(f, "{}.{rev} {}", job.0, Happened(what))
     }
 }
 
-fn word_of(how: How) -> &'static [u8] {
+// What happened in one step: its word, and what it is about.
+#[derive(Clone, Copy)]
+struct Happened<'a>(&'a What);
+
+impl fmt::Display for Happened<'_> {
+    fn fmt<W: fmt::Write>(&self, f: &mut fmt::Formatter<W>) -> fmt::Result {
+        match self.0 {
+            What::Began => write!(f, "began"),
+            What::ReadTag { tag, media, bytes } => {
+                let digest = Named(Digest::of(bytes.view()));
+                write!(
+                    f,
+                    "read {} {} {digest}",
+                    Plain(tag.view()),
+                    Plain(media.view())
+                )
+            }
+            What::Looked { tag, found } => {
+                write!(f, "looked {} {}", Plain(tag.view()), Perhaps(*found))
+            }
+            What::ReadChild {
+                digest,
+                media,
+                bytes,
+            } => {
+                let own = Named(Digest::of(bytes.view()));
+                write!(f, "child {} {} {own}", Named(*digest), Plain(media.view()))
+            }
+            What::HasBlob { digest, len: None } => write!(f, "lacks {}", Named(*digest)),
+            What::HasBlob {
+                digest,
+                len: Some(len),
+            } => write!(f, "has {} {len}", Named(*digest)),
+            What::GotBlob { digest, len } => write!(f, "got {} {len}", Named(*digest)),
+            What::PutBlob { digest, sure } => write!(f, "put {} {sure}", Named(*digest)),
+            What::PutChild { digest, sure } => write!(f, "raised {} {sure}", Named(*digest)),
+            What::Show {
+                tag,
+                digest,
+                old,
+                how,
+            } => {
+                let tag = Plain(tag.view());
+                write!(
+                    f,
+                    "{} {tag} {} {}",
+                    word_of(*how),
+                    Named(*digest),
+                    Perhaps(*old)
+                )
+            }
+            What::Ended { status, cause } => write!(f, "{} {}", end_of(*status), Why(cause)),
+            What::Dropped => write!(f, "dropped"),
+        }
+    }
+}
+
+fn word_of(how: How) -> &'static str {
     match how {
-        How::Put => b"shown ",
-        How::Unsure => b"unsure ",
-        How::Same => b"same ",
-        How::Kept => b"kept ",
+        How::Put => "shown",
+        How::Unsure => "unsure",
+        How::Same => "same",
+        How::Kept => "kept",
     }
 }
 
-fn end_of(status: Status) -> &'static [u8] {
+fn end_of(status: Status) -> &'static str {
     match status {
-        Status::Success => b"success\n",
-        _ => b"error\n",
+        Status::Success => "success",
+        Status::Error => "error",
+        _ => "other",
     }
 }
 
-/// The cause that an entry tells, in words.
-pub fn cause(alloc: Global, what: &What) -> Result<Option<Vec<u8>>, Memory> {
-    match what {
+/// The cause that an entry gives, where it gives one.
+pub fn cause_of(entry: &Entry) -> Option<&Cause> {
+    match &entry.what {
         What::Ended {
             cause: Some(cause),
             ..
-        } => Ok(Some(words_of(alloc, cause)?)),
-        _ => Ok(None),
+        } => Some(cause),
+        _ => None,
     }
 }
 
-fn words_of(alloc: Global, cause: &Cause) -> Result<Vec<u8>, Memory> {
-    match cause {
-        Cause::Gone {
-            reference: Reference::Digest(digest),
-        } => about(alloc, b"gone ", digest),
-        Cause::Gone { .. } => Ok(b"gone".to_vec(alloc)?),
-        Cause::Unreadable { digest } => about(alloc, b"unreadable ", digest),
-        Cause::TooDeep { digest } => about(alloc, b"deep ", digest),
-        Cause::SizeDiffers { digest, said, got } => sizes(alloc, digest, *said, *got),
-        Cause::TooMany { count } => Ok(format!(in alloc; "many {count}")?.into_bytes()),
-        Cause::TooLong { len } => Ok(format!(in alloc; "long {len}")?.into_bytes()),
-        Cause::Fault { .. } => Ok(b"fault".to_vec(alloc)?),
-        Cause::Differs { .. } => Ok(b"differs".to_vec(alloc)?),
-        Cause::Memory => Ok(b"memory".to_vec(alloc)?),
+/// A cause in words.
+#[derive(Clone, Copy)]
+pub struct Because<'a>(pub &'a Cause);
+
+impl fmt::Display for Because<'_> {
+    fn fmt<W: fmt::Write>(&self, f: &mut fmt::Formatter<W>) -> fmt::Result {
+        match self.0 {
+            Cause::Fault { reg, before, after } => write!(f, "fault {} {before} {after}", reg.0),
+            Cause::Differs { asked, got } => write!(f, "differs {} {}", Named(*asked), Named(*got)),
+            Cause::SizeDiffers { digest, said, got } => {
+                write!(f, "size {} {said} {got}", Named(*digest))
+            }
+            Cause::Gone {
+                reference: Reference::Tag(tag),
+            } => write!(f, "gone {}", Plain(tag.view())),
+            Cause::Gone {
+                reference: Reference::Digest(digest),
+            } => write!(f, "gone {}", Named(*digest)),
+            Cause::Unreadable { digest } => write!(f, "unreadable {}", Named(*digest)),
+            Cause::TooDeep { digest } => write!(f, "deep {}", Named(*digest)),
+            Cause::TooMany { count } => write!(f, "many {count}"),
+            Cause::TooLong { len } => write!(f, "long {len}"),
+            Cause::Memory => write!(f, "memory"),
+        }
     }
 }
 
-// A word and a digest.
-fn about(alloc: Global, word: &[u8], digest: &Digest) -> Result<Vec<u8>, Memory> {
-    let mut text = word.to_vec(alloc)?;
-    text.extend_from_slice(digest.text(alloc)?.view())?;
-    Ok(text)
-}
+// A cause in words, or `whole`.
+#[derive(Clone, Copy)]
+struct Why<'a>(&'a Option<Cause>);
 
-// The size that a descriptor says of a digest, and its length.
-fn sizes(alloc: Global, digest: &Digest, said: u64, got: u64) -> Result<Vec<u8>, Memory> {
-    let mut text = about(alloc, b"size ", digest)?;
-    let numbers = format!(in alloc; " {said} {got}")?;
-    text.extend_from_slice(numbers.as_bytes())?;
-    Ok(text)
+impl fmt::Display for Why<'_> {
+    fn fmt<W: fmt::Write>(&self, f: &mut fmt::Formatter<W>) -> fmt::Result {
+        match self.0 {
+            Some(cause) => write!(f, "{}", Because(cause)),
+            None => write!(f, "whole"),
+        }
+    }
 }

@@ -1,0 +1,60 @@
+//! Words and numbers of a line, and texts in which bytes may be escaped.
+
+use hr_base::{List, Memory};
+use percent_encoding::{AsciiSet, CONTROLS, percent_decode};
+use std::alloc::Global;
+
+/// The bytes that a text stands for.
+pub fn decoded(alloc: Global, text: &str) -> Result<Vec<u8>, Memory> {
+    let mut bytes = Vec::new(alloc);
+    percent_decode(text.as_bytes()).append_to(&mut bytes)?;
+    Ok(bytes)
+}
+
+/// The bytes that are escaped in what is printed, besides those that are not ASCII.
+pub fn escaped() -> AsciiSet {
+    CONTROLS.add(b'%')
+}
+
+/// The numbers of a text, up to a word that is none.
+pub fn numbers(alloc: Global, text: &str) -> Result<List<u64>, Memory> {
+    let mut list = List::new(alloc);
+    for word in text.split_whitespace() {
+        match word.parse() {
+            Ok(number) => list.push(number)?,
+            Err(_) => return Ok(list),
+        }
+    }
+    Ok(list)
+}
+
+/// Puts a text at the end of an input once for each of these numbers.
+pub fn write_each(
+    alloc: Global,
+    input: &mut Vec<u8>,
+    from: u64,
+    to: u64,
+    text: &[u8],
+) -> Result<(), Memory> {
+    for number in from..to {
+        write_counted(alloc, input, number, text)?;
+    }
+    Ok(())
+}
+
+// Puts a text at the end of an input, with a number in the place of each asterisk.
+fn write_counted(
+    alloc: Global,
+    input: &mut Vec<u8>,
+    number: u64,
+    text: &[u8],
+) -> Result<(), Memory> {
+    for byte in text {
+        if *byte == b'*' {
+            input.extend_from_slice(format!(in alloc; "{number:04x}")?.as_bytes())?;
+        } else {
+            input.push(*byte)?;
+        }
+    }
+    Ok(())
+}

@@ -1,0 +1,80 @@
+//! Runs of cases, and what is printed of each.
+
+use crate::case::{Case, Show};
+use crate::digits::Plain;
+use crate::registries::{write_contents, write_tags};
+use crate::steps::{Because, Step, cause_of};
+use crate::tasks::write_tasks;
+use hr_base::{Bytes, List, Memory};
+use hr_cause::{MemSink, MemSource};
+use hr_event::Entry;
+use hr_top::{Ending, top};
+use std::alloc::Global;
+
+/// Runs a case, and answers what is printed of it: the status, the text that was sent with its
+/// length, the faults of the input and of the output, and what is to be shown.
+pub fn run(alloc: Global, case: Case) -> Result<String, Memory> {
+    let mut said = String::new(alloc);
+    let Case {
+        words,
+        input,
+        pieces,
+        failing_reads,
+        failing_writes,
+        shows,
+        tasks,
+    } = case;
+    let mut source = MemSource::new(alloc, Bytes::from(input), pieces, failing_reads)?;
+    let mut sink = MemSink::new(alloc, failing_writes)?;
+    let kept = call(alloc, &mut said, &words, &mut source, &mut sink)?;
+    for show in shows {
+        write_shown(alloc, &mut said, show, &kept)?;
+    }
+    write_tasks(alloc, &mut said, &kept, &tasks)?;
+    Ok(said)
+}
+
+// Makes the call, writes its answer, and answers what it keeps.
+fn call(
+    alloc: Global,
+    said: &mut String,
+    words: &[Bytes],
+    source: &mut MemSource,
+    sink: &mut MemSink,
+) -> Result<Ending, Memory> {
+    let mut kept = Ending {
+        regs: List::new(alloc),
+        journal: List::new(alloc),
+    };
+    let status = top(alloc, words, source, sink, &mut kept);
+    let sent = sink.sent();
+    writeln!(said, "status {status}")?;
+    writeln!(said, "sent {} [{}]", sent.len(), Plain(sent))?;
+    writeln!(said, "faults {} {}", source.faults(), sink.faults())?;
+    Ok(kept)
+}
+
+fn write_shown(alloc: Global, said: &mut String, show: Show, kept: &Ending) -> Result<(), Memory> {
+    match show {
+        Show::Journal => write_journal(said, kept.journal.view()),
+        Show::Causes => write_causes(said, kept.journal.view()),
+        Show::Tags => write_tags(alloc, said, kept.regs.view()),
+        Show::Content => write_contents(alloc, said, kept.regs.view()),
+    }
+}
+
+/// Writes each entry of a journal.
+pub fn write_journal(said: &mut String, journal: &[Entry]) -> Result<(), Memory> {
+    for entry in journal {
+        writeln!(said, "entry {}", Step(entry))?;
+    }
+    Ok(())
+}
+
+// Writes the causes of a journal.
+fn write_causes(said: &mut String, journal: &[Entry]) -> Result<(), Memory> {
+    for cause in journal.iter().filter_map(|entry| cause_of(entry)) {
+        writeln!(said, "cause {}", Because(cause))?;
+    }
+    Ok(())
+}
