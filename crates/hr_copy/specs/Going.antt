@@ -28,6 +28,7 @@ pub record Standing (c : Content) (repo : List ℕ) (view : View) : Type 0 where
   pub manifests : AllByRecursion
       (λ e. Stands (Closed e.1.height c repo) c repo kind.Manifest e.0 e.1.len) view.manifests
 
+-- a manifest that was read as it is stored: its media type and its bytes
 abbrev pub stored_of : Parts → Fetched
 stored_of parts = record { media = parts.media; bytes = parts.bytes }
 
@@ -40,6 +41,7 @@ WereRead turn tag log (o ∷ p ∷ below) =
     (last (child_read o.digest) turn.job.0 turn.rev log ≡ Some (stored_of o.manifest))
     × WereRead turn tag log (p ∷ below)
 
+-- the bytes of a manifest read, under its media type, as its children
 abbrev pub IsReadable : Parts → Type 0
 IsReadable parts = Reads parts.media parts.bytes parts.children
 

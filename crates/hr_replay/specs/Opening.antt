@@ -20,6 +20,7 @@ Contents = List Content
 abbrev pub contents_of : List Mem → Contents
 contents_of regs = map (λ m. m.content) regs
 
+-- the content of the registry of this number, from 1
 abbrev pub content_in : Contents → ℕ → Content
 content_in contents reg = unwrap_or (slice_get contents (reg - 1)) []
 
@@ -102,6 +103,7 @@ abbrev pub event_in : Line → List Event
 event_in (line.Event event) = event ∷ []
 event_in _ = []
 
+-- the events among the lines of a script, in order
 abbrev pub events_in : List Numbered → List Event
 events_in [] = []
 events_in (numbered ∷ rest) = event_in numbered.line ++ events_in rest

@@ -51,6 +51,7 @@ task_of tasks (suc at) = slice_get tasks at
 abbrev pub from_of : List TaskSpec → ℕ → List ℕ
 from_of tasks job = unwrap_or (option_map (λ spec. spec.from) (task_of tasks job)) []
 
+-- where the task of a job writes, or no name where there is no such job
 abbrev pub to_of : List TaskSpec → ℕ → List ℕ
 to_of tasks job = unwrap_or (option_map (λ spec. spec.to) (task_of tasks job)) []
 
@@ -152,6 +153,7 @@ Runs before [] said after = (after ≡ before) × (said ≡ [])
 Runs before (event ∷ events) said after = (mid : State) × (answer : List ℕ) × (later : List ℕ)
     × Does before event answer mid × Runs mid events later after × (said ≡ answer ++ later)
 
+-- whether a status is Success
 abbrev pub is_success : Status → Bool
 is_success Success = true
 is_success _ = false
