@@ -21,7 +21,7 @@ use Rattle.hr_graph.specs.Walk.{View, is_open}
 use Rattle.hr_graph.specs.declared.need.Need.{Need}
 use Rattle.hr_graph.specs.declared.opened.Finished.{Finished}
 use Rattle.hr_graph.specs.declared.opened.Opened.{Opened}
-use Rattle.hr_graph.proofs.KnownLemmas.{known_all}
+use Rattle.hr_graph.proofs.WalkLaws.{known_all}
 use Rattle.hr_journal.specs.Graph.{Closed, Stands, StandsUnder}
 use Rattle.hr_journal.specs.Grows.{Grows}
 use Rattle.hr_journal.specs.Promise.{Promise}

@@ -17,7 +17,7 @@ use Rattle.hr_graph.specs.Step.{begun, outcome, with_root}
 use Rattle.hr_graph.specs.Walk.{View, newest_manifest}
 use Rattle.hr_graph.specs.declared.need.Given.TheVariants as given
 use Rattle.hr_graph.specs.declared.need.Need.TheVariants as need
-use Rattle.hr_graph.proofs.LastLemmas.{comes_last}
+use Rattle.hr_graph.proofs.WalkLaws.{comes_last}
 use Rattle.hr_journal.specs.Promise.{Promise}
 use Rattle.hr_journal.specs.Says.{last, read_under}
 use Rattle.hr_journal.specs.Still.{IsStill}

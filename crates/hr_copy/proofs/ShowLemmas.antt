@@ -19,8 +19,7 @@ use Rattle.hr_graph.specs.Walk.{View, newest_manifest}
 use Rattle.hr_graph.specs.declared.need.Need.{Need}
 use Rattle.hr_graph.specs.declared.need.Need.TheVariants as need
 use Rattle.hr_graph.specs.declared.opened.Opened.{Opened}
-use Rattle.hr_graph.proofs.LastLemmas.{comes_last}
-use Rattle.hr_graph.proofs.SoundLemmas.{all_passed}
+use Rattle.hr_graph.proofs.WalkLaws.{all_passed, comes_last}
 use Rattle.hr_journal.specs.Graph.{StandsUnder}
 use Rattle.hr_journal.specs.Promise.{IsPut, Promise}
 use Rattle.hr_journal.specs.Puts.{IsLeft, MaybePutTag, PutsTag, LeavesTag}

@@ -16,8 +16,7 @@ use Rattle.hr_graph.specs.declared.need.Need.TheVariants as need
 use Rattle.hr_graph.specs.declared.need.WalkRefused.{WalkRefused}
 use Rattle.hr_graph.specs.declared.opened.Finished.{Finished}
 use Rattle.hr_graph.specs.declared.opened.Opened.{Opened}
-use Rattle.hr_graph.proofs.GiveLemmas.{step_falls}
-use Rattle.hr_graph.proofs.LastLemmas.{comes_last}
+use Rattle.hr_graph.proofs.WalkLaws.{comes_last, step_falls}
 use Rattle.hr_copy.specs.Going.{GoesOn}
 
 -- ---- at the next need

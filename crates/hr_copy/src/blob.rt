@@ -109,15 +109,22 @@ pub(crate) fn copy_blob<S: Registry, D: Registry>(
 {
     walk.is_sound();
     let bytes = read_blob(source, log, turn, spec, digest)?;
-    let said = walk.size();
     let got = bytes.view().len() as u64;
-    if said != got {
-        return Err(Cause::SizeDiffers { digest, said, got });
-    }
+    check_size(walk, digest, got)?;
     put_blob(dest, log, turn, spec, digest, &bytes)?;
     match walk.give(Given::Copied { len: got }) {
         Ok(()) => Ok(()),
         Err(why) => Err(of_walk(why)),
+    }
+}
+
+// Compares the length of a blob with the size that the walk knows of it.
+fn check_size(walk: &Walk, digest: Digest, got: u64) -> Result<(), Cause>
+    ensures { IfErr result (λ cause. (said : ℕ) × (cause ≡ Cause.SizeDiffers digest said got)) }
+{
+    match walk.size() {
+        Some(said) if said != got => Err(Cause::SizeDiffers { digest, said, got }),
+        _ => Ok(()),
     }
 }
 

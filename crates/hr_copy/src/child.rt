@@ -141,9 +141,7 @@ pub(crate) fn put_child<D: Registry>(
         (λ cause. Evidence cause spec.now source (D.seen dest.new)) }
 {
     walk.is_sound();
-    let Some(manifest) = walk.putting() else {
-        return Err(Cause::Memory);
-    };
+    let manifest = walk.putting();
     put_manifest(dest, log, turn, spec, digest, manifest)?;
     match walk.give(Given::Put) {
         Ok(()) => Ok(()),

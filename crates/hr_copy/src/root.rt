@@ -192,9 +192,7 @@ pub(crate) fn show<D: Registry>(
     walk.is_sound();
     let named = copied(alloc, tag)?;
     let shown = copied(alloc, tag)?;
-    let Some(manifest) = walk.putting() else {
-        return Err(Cause::Memory);
-    };
+    let manifest = walk.putting();
     let old = find(alloc, dest, spec, tag)?;
     let (how, put) = settle(dest, spec, &Reference::Tag(named), manifest, old, digest);
     log.write(Entry {

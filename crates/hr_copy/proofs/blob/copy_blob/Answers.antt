@@ -21,13 +21,13 @@ returns-in-Ok-clause-wrote g c =
     wrote_two c.args.turn.now c.args.log.now.newest c.read_blob.new.log.newest _ _ _
     c.in_ok-bytes.ensures.ok.1 c.in_ok-put_blob.ensures.wrote (tt, tt) (tt, tt)
 
-pub returns-then-said-got-clause-promised : goal.returns-then-said-got-clause-promised
-returns-then-said-got-clause-promised g c = λ to o placed.
+pub returns-in_err-check_size-clause-promised : goal.returns-in_err-check_size-clause-promised
+returns-in_err-check_size-clause-promised g c = on_err c.from_residual-in_err-check_size.result (λ to o placed.
     got_promised to o c.args.turn.now c.args.spec.now.to c.args.spec.now.to c.args.log.now.newest c.read_blob.new.log.newest
-    (g.D.Registry.seen c.args.dest.now) c.args.digest (length c.in_ok-bytes.bytes) c.in_ok-bytes.ensures.ok.1
+    (g.D.Registry.seen c.args.dest.now) c.args.digest (length c.in_ok-bytes.bytes) c.in_ok-bytes.ensures.ok.1)
 
-pub returns-then-said-got-clause-wrote : goal.returns-then-said-got-clause-wrote
-returns-then-said-got-clause-wrote g c =
+pub returns-in_err-check_size-clause-wrote : goal.returns-in_err-check_size-clause-wrote
+returns-in_err-check_size-clause-wrote g c =
     wrote_one c.args.turn.now c.args.log.now.newest _ _ c.in_ok-bytes.ensures.ok.1 (tt, tt)
 
 pub returns-in_err-put_blob-clause-promised : goal.returns-in_err-put_blob-clause-promised

@@ -14,9 +14,9 @@ pub returns-clause-promised : goal.returns-clause-promised
 returns-clause-promised g c = λ to o placed.
     shown_promised to o c.args.turn.now c.args.spec.now.to c.args.tag.now c.args.log.now.newest c.args.spec.now.override_it c.write.new.self.newest
     c.args.walk.now (g.D.Registry.seen c.args.dest.now) (g.D.Registry.seen c.find.new.dest) (g.D.Registry.seen c.settle-how.new.dest)
-    c.args.digest c.in-Some.manifest.now c.in_ok-old.old c.settle-how.result.0 c.requires.asked c.is_sound.ensures c.requires.root
-    c.in-Some.ensures placed c.in_ok-old.ensures.dest c.in_ok-old.ensures.told c.settle-how.ensures.decides
-    (subst (λ (t : List ℕ). ShowsBy c.settle-how.result.0 c.args.spec.now.to (by.Tag t) c.in-Some.manifest.now
+    c.args.digest c.putting-manifest.result.now c.in_ok-old.old c.settle-how.result.0 c.requires.asked c.is_sound.ensures c.requires.root
+    c.putting-manifest.ensures placed c.in_ok-old.ensures.dest c.in_ok-old.ensures.told c.settle-how.ensures.decides
+    (subst (λ (t : List ℕ). ShowsBy c.settle-how.result.0 c.args.spec.now.to (by.Tag t) c.putting-manifest.result.now
     (g.D.Registry.seen c.find.new.dest) (g.D.Registry.seen c.settle-how.new.dest)) c.in_ok-named.ensures.ok c.settle-how.ensures.put)
     (c.write.ensures.written ∙ ap (λ t. entry_of c.args.turn.now (Show t c.args.digest c.in_ok-old.old c.settle-how.result.0)
     ∷ c.args.log.now.newest) c.in_ok-shown.ensures.ok)
@@ -39,11 +39,6 @@ returns-in_err-named-clause-promised g c = λ to o placed.
 
 pub returns-in_err-shown-clause-promised : goal.returns-in_err-shown-clause-promised
 returns-in_err-shown-clause-promised g c = λ to o placed.
-    going_promised to o c.args.turn.now c.args.spec.now.to c.args.tag.now c.args.log.now.newest c.args.log.now.newest
-    c.args.walk.now (g.D.Registry.seen c.args.dest.now)
-
-pub returns-in_default-clause-promised : goal.returns-in_default-clause-promised
-returns-in_default-clause-promised g c = λ to o placed.
     going_promised to o c.args.turn.now c.args.spec.now.to c.args.tag.now c.args.log.now.newest c.args.log.now.newest
     c.args.walk.now (g.D.Registry.seen c.args.dest.now)
 
