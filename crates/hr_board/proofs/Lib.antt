@@ -1,3 +1,4 @@
+pub mod LawfulLaws
 mod MovesLemmas
 mod OverLemmas
 mod PastLemmas

@@ -18,7 +18,7 @@ pub record Moves (words after : List ℕ) (place to : ℕ) : Type 0 where
   pub here : get_or after place 0 ≡ to
   pub elsewhere : (p : ℕ) → p ≢ place → get_or after p 0 ≡ get_or words p 0
 
-moves-set : (words : List ℕ) (place to : ℕ) → place < length words → Moves words (set words place to) place to
+pub moves-set : (words : List ℕ) (place to : ℕ) → place < length words → Moves words (set words place to) place to
 moves-set words place to h = record {
   here = get_or-set_same words place to 0 h;
   elsewhere = λ p n. get_or-set_other words place p to 0 n;

@@ -1,10 +1,9 @@
 //! The plain board, for one thread: a word of eight bytes for each revision, and nothing else.
 ghost use Rattle.std.specs.Prelude.{◌≡◌, ◌/◌, ◌≤◌, IfOk, length};
-ghost use Rattle.hr_base.specs.Status.{word_of};
-ghost use Rattle.hr_board.specs.View.{place_of};
 
 use crate::Board;
 use crate::trail::{Note, new_trace, noted};
+use crate::word::{mark_of, place};
 use hr_base::{JobNo, Mark, Memory, Status, Trace};
 use std::alloc::Global;
 use std::marker::Model;
@@ -99,24 +98,5 @@ impl Board for PlainBoard {
         self.words[at] = new;
         self.trail = noted(&self.trail, &Note::Moved(at, old, new));
         Ok(())
-    }
-}
-
-// Where the word of a revision stands.
-fn place(job: JobNo, rev: u8) -> usize
-    requires { 1 ≤ job.0 }
-    ensures { result ≡ place_of job.0 rev }
-{
-    4 * (job.0 as usize - 1) + rev as usize
-}
-
-// The mark of a word.
-fn mark_of(word: u64) -> Mark
-    requires { word ≤ 6 }
-    ensures { word_of result ≡ word }
-{
-    match Mark::of_word(word) {
-        Some(mark) => mark,
-        None => unreachable!(),
     }
 }

@@ -1,0 +1,4 @@
+mod CloseLemmas
+mod RuleLemmas
+mod SeatsLemmas
+mod StepLemmas

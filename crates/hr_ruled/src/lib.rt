@@ -1,0 +1,19 @@
+//! The shared board: one atomic word for each job and revision, and seats that look and move without
+//! a lock, each by its own leave. Start with `opened`.
+#![tactic(auto)]
+
+mod held;
+mod limit;
+mod naming;
+mod opened;
+mod rule;
+mod seat;
+mod shared;
+
+pub use held::Held;
+pub use limit::{ALL_PARTS, JOB_LIMIT};
+pub use naming::Naming;
+pub use opened::OpenedBoard;
+pub use rule::{FinalMove, Role, SeatView};
+pub use seat::BoardSeat;
+pub use shared::SharedBoard;
