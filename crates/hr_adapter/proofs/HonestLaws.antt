@@ -1,6 +1,9 @@
--- What keeps content honest, and what moves tags alone.
-use Rattle.std.proofs.Common.{◌≡◌, inl, inr, refl, sym, ap, subst, ◌∙◌, ℕ, List, Option, Some, None}
+-- Laws of honest content: what keeps it honest, and what moves tags alone.
+use Rattle.std.proofs.Common.{◌≡◌, inl, inr, refl, sym, ap, subst, ◌∙◌, Option, Some, None}
 use Rattle.std.specs.Prelude.{IfSome, IsSome}
+use Rattle.hr_base.specs.Bytes.{ByteList, Media}
+use Rattle.hr_name.specs.Name.{RepoName}
+use Rattle.hr_name.specs.Tag.{TagName}
 use Rattle.hr_digest.specs.Digest.{digest_of}
 use Rattle.hr_digest.specs.declared.digest.Digest.{Digest}
 use Rattle.hr_event.specs.declared.reference.Fetched.{Fetched}
@@ -22,7 +25,7 @@ if_some_then P Q (Some x) more h = more x h
 if_some_then P Q None more h = tt
 
 -- a blob under its own digest keeps it honest
-pub Honest-with_blob : (c : Content) (r : List ℕ) (d : Digest) (bytes : List ℕ) → digest_of bytes ≡ d
+pub Honest-with_blob : (c : Content) (r : RepoName) (d : Digest) (bytes : ByteList) → digest_of bytes ≡ d
     → Honest c → Honest (with_blob c r d bytes)
 Honest-with_blob c r d bytes own h = record {
   blobs = λ q e. elim (blob_at-with_blob-cases c r d bytes q e) [
@@ -41,7 +44,7 @@ Honest-with_blob c r d bytes own h = record {
 }
 
 -- manifests that were there are there after a manifest is put
-pub manifest_stays : (c : Content) (r : List ℕ) (d : Digest) (m : Fetched) (q : List ℕ) (e : Digest)
+pub manifest_stays : (c : Content) (r : RepoName) (d : Digest) (m : Fetched) (q : RepoName) (e : Digest)
     → IsSome (manifest_at c q e) → IsSome (manifest_at (with_manifest c r d m) q e)
 manifest_stays c r d m q e is = elim (manifest_at-with_manifest-cases c r d m q e) [
   | inl at ↦ is_some_along (manifest_at (with_manifest c r d m) q e) (Some m) at.2 refl
@@ -49,7 +52,7 @@ manifest_stays c r d m q e is = elim (manifest_at-with_manifest-cases c r d m q 
 ]
 
 -- a manifest under its own digest keeps it honest
-pub Honest-with_manifest : (c : Content) (r : List ℕ) (d : Digest) (m : Fetched) → digest_of m.bytes ≡ d
+pub Honest-with_manifest : (c : Content) (r : RepoName) (d : Digest) (m : Fetched) → digest_of m.bytes ≡ d
     → Honest c → Honest (with_manifest c r d m)
 Honest-with_manifest c r d m own h = record {
   blobs = λ q e.
@@ -67,7 +70,7 @@ Honest-with_manifest c r d m own h = record {
 }
 
 -- a tag that names a manifest which is there keeps it honest
-pub Honest-with_tag : (c : Content) (r t : List ℕ) (d : Digest) → IsSome (manifest_at c r d) → Honest c
+pub Honest-with_tag : (c : Content) (r : RepoName) (t : TagName) (d : Digest) → IsSome (manifest_at c r d) → Honest c
     → Honest (with_tag c r t d)
 Honest-with_tag c r t d there h = record {
   blobs = λ q e.
@@ -88,11 +91,11 @@ Honest-with_tag c r t d there h = record {
 }
 
 -- a put of a manifest keeps it honest, whether its tag moved or not
-pub Honest-manifest_alone : (c : Content) (r media bytes : List ℕ) → Honest c → Honest (manifest_alone r media bytes c)
+pub Honest-manifest_alone : (c : Content) (r : RepoName) (media : Media) (bytes : ByteList) → Honest c → Honest (manifest_alone r media bytes c)
 Honest-manifest_alone c r media bytes h =
     Honest-with_manifest c r (digest_of bytes) (as_manifest media bytes) refl h
 
-pub Honest-put_under : (c : Content) (r : List ℕ) (reference : Reference) (media bytes : List ℕ) → Honest c
+pub Honest-put_under : (c : Content) (r : RepoName) (reference : Reference) (media : Media) (bytes : ByteList) → Honest c
     → Honest (put_under r reference media bytes c)
 Honest-put_under c r (by.Tag t) media bytes h =
     Honest-with_tag (manifest_alone r media bytes c) r t (digest_of bytes)
@@ -112,5 +115,5 @@ Retagged-then c d e h k = record {
   manifests = λ r at. k.manifests r at ∙ h.manifests r at;
 }
 
-pub Retagged-with_tag : (c : Content) (r t : List ℕ) (d : Digest) → Retagged c (with_tag c r t d)
+pub Retagged-with_tag : (c : Content) (r : RepoName) (t : TagName) (d : Digest) → Retagged c (with_tag c r t d)
 Retagged-with_tag c r t d = record { blobs = blob_at-with_tag c r t d; manifests = manifest_at-with_tag c r t d }

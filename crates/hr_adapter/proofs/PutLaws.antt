@@ -1,5 +1,9 @@
--- What each look-up finds after a put of a manifest, whether its tag moved or not.
-use Rattle.std.proofs.Common.{◌≡◌, ◌≢◌, ◌⊎◌, inl, inr, refl, ◌∙◌, ℕ, List, Some}
+-- Laws of puts: what each look-up finds after a put of a manifest, whether its tag moved or not.
+-- Nothing cites them yet.
+use Rattle.std.proofs.Common.{◌≡◌, ◌≢◌, ◌⊎◌, inl, inr, refl, ◌∙◌, Some}
+use Rattle.hr_base.specs.Bytes.{ByteList, Media}
+use Rattle.hr_name.specs.Name.{RepoName}
+use Rattle.hr_name.specs.Tag.{TagName}
 use Rattle.hr_digest.specs.Digest.{digest_of}
 use Rattle.hr_digest.specs.declared.digest.Digest.{Digest}
 use Rattle.hr_event.specs.declared.reference.Reference.{Reference}
@@ -10,55 +14,55 @@ use Rattle.hr_adapter.proofs.ContentLaws.{blob_at-with_manifest, blob_at-with_ta
 
 -- ---- the manifest alone
 
-pub blob_at-manifest_alone : (c : Content) (r media bytes q : List ℕ) (e : Digest)
+pub blob_at-manifest_alone : (c : Content) (r : RepoName) (media : Media) (bytes : ByteList) (q : RepoName) (e : Digest)
     → blob_at (manifest_alone r media bytes c) q e ≡ blob_at c q e
 blob_at-manifest_alone c r media bytes q e = blob_at-with_manifest c r (digest_of bytes) (as_manifest media bytes) q e
 
-pub manifest_at-manifest_alone-same : (c : Content) (r media bytes : List ℕ)
+pub manifest_at-manifest_alone-same : (c : Content) (r : RepoName) (media : Media) (bytes : ByteList)
     → manifest_at (manifest_alone r media bytes c) r (digest_of bytes) ≡ Some (as_manifest media bytes)
 manifest_at-manifest_alone-same c r media bytes = manifest_at-with_manifest-same c r (digest_of bytes) (as_manifest media bytes)
 
-pub manifest_at-manifest_alone-other : (c : Content) (r media bytes q : List ℕ) (e : Digest)
+pub manifest_at-manifest_alone-other : (c : Content) (r : RepoName) (media : Media) (bytes : ByteList) (q : RepoName) (e : Digest)
     → (q ≡ r → e ≢ digest_of bytes) → manifest_at (manifest_alone r media bytes c) q e ≡ manifest_at c q e
 manifest_at-manifest_alone-other c r media bytes q e apart =
     manifest_at-with_manifest-other c r (digest_of bytes) (as_manifest media bytes) q e apart
 
-pub manifest_at-manifest_alone-cases : (c : Content) (r media bytes q : List ℕ) (e : Digest)
+pub manifest_at-manifest_alone-cases : (c : Content) (r : RepoName) (media : Media) (bytes : ByteList) (q : RepoName) (e : Digest)
     → ((q ≡ r) × (e ≡ digest_of bytes) × (manifest_at (manifest_alone r media bytes c) q e ≡ Some (as_manifest media bytes)))
     ⊎ (manifest_at (manifest_alone r media bytes c) q e ≡ manifest_at c q e)
 manifest_at-manifest_alone-cases c r media bytes q e =
     manifest_at-with_manifest-cases c r (digest_of bytes) (as_manifest media bytes) q e
 
-pub tag_at-manifest_alone : (c : Content) (r media bytes q t : List ℕ)
+pub tag_at-manifest_alone : (c : Content) (r : RepoName) (media : Media) (bytes : ByteList) (q : RepoName) (t : TagName)
     → tag_at (manifest_alone r media bytes c) q t ≡ tag_at c q t
 tag_at-manifest_alone c r media bytes q t = tag_at-with_manifest c r (digest_of bytes) (as_manifest media bytes) q t
 
 -- ---- the manifest under a reference
 
-pub blob_at-put_under : (c : Content) (r : List ℕ) (reference : Reference) (media bytes q : List ℕ) (e : Digest)
+pub blob_at-put_under : (c : Content) (r : RepoName) (reference : Reference) (media : Media) (bytes : ByteList) (q : RepoName) (e : Digest)
     → blob_at (put_under r reference media bytes c) q e ≡ blob_at c q e
 blob_at-put_under c r (by.Tag t) media bytes q e =
     blob_at-with_tag (manifest_alone r media bytes c) r t (digest_of bytes) q e ∙ blob_at-manifest_alone c r media bytes q e
 blob_at-put_under c r (by.Digest d) media bytes q e = blob_at-manifest_alone c r media bytes q e
 
 -- at every place it is as after the manifest alone
-pub manifest_at-put_under : (c : Content) (r : List ℕ) (reference : Reference) (media bytes q : List ℕ) (e : Digest)
+pub manifest_at-put_under : (c : Content) (r : RepoName) (reference : Reference) (media : Media) (bytes : ByteList) (q : RepoName) (e : Digest)
     → manifest_at (put_under r reference media bytes c) q e ≡ manifest_at (manifest_alone r media bytes c) q e
 manifest_at-put_under c r (by.Tag t) media bytes q e =
     manifest_at-with_tag (manifest_alone r media bytes c) r t (digest_of bytes) q e
 manifest_at-put_under c r (by.Digest d) media bytes q e = refl
 
-pub manifest_at-put_under-same : (c : Content) (r : List ℕ) (reference : Reference) (media bytes : List ℕ)
+pub manifest_at-put_under-same : (c : Content) (r : RepoName) (reference : Reference) (media : Media) (bytes : ByteList)
     → manifest_at (put_under r reference media bytes c) r (digest_of bytes) ≡ Some (as_manifest media bytes)
 manifest_at-put_under-same c r reference media bytes =
     manifest_at-put_under c r reference media bytes r (digest_of bytes) ∙ manifest_at-manifest_alone-same c r media bytes
 
-pub manifest_at-put_under-other : (c : Content) (r : List ℕ) (reference : Reference) (media bytes q : List ℕ) (e : Digest)
+pub manifest_at-put_under-other : (c : Content) (r : RepoName) (reference : Reference) (media : Media) (bytes : ByteList) (q : RepoName) (e : Digest)
     → (q ≡ r → e ≢ digest_of bytes) → manifest_at (put_under r reference media bytes c) q e ≡ manifest_at c q e
 manifest_at-put_under-other c r reference media bytes q e apart =
     manifest_at-put_under c r reference media bytes q e ∙ manifest_at-manifest_alone-other c r media bytes q e apart
 
-pub manifest_at-put_under-cases : (c : Content) (r : List ℕ) (reference : Reference) (media bytes q : List ℕ) (e : Digest)
+pub manifest_at-put_under-cases : (c : Content) (r : RepoName) (reference : Reference) (media : Media) (bytes : ByteList) (q : RepoName) (e : Digest)
     → ((q ≡ r) × (e ≡ digest_of bytes) × (manifest_at (put_under r reference media bytes c) q e ≡ Some (as_manifest media bytes)))
     ⊎ (manifest_at (put_under r reference media bytes c) q e ≡ manifest_at c q e)
 manifest_at-put_under-cases c r reference media bytes q e = elim (manifest_at-manifest_alone-cases c r media bytes q e) [
@@ -66,17 +70,17 @@ manifest_at-put_under-cases c r reference media bytes q e = elim (manifest_at-ma
   | inr is ↦ inr (manifest_at-put_under c r reference media bytes q e ∙ is)
 ]
 
-pub tag_at-put_under-same : (c : Content) (r t media bytes : List ℕ)
+pub tag_at-put_under-same : (c : Content) (r : RepoName) (t : TagName) (media : Media) (bytes : ByteList)
     → tag_at (put_under r (by.Tag t) media bytes c) r t ≡ Some (digest_of bytes)
 tag_at-put_under-same c r t media bytes = tag_at-with_tag-same (manifest_alone r media bytes c) r t (digest_of bytes)
 
-pub tag_at-put_under-other : (c : Content) (r t media bytes q s : List ℕ) → (q ≡ r → s ≢ t)
+pub tag_at-put_under-other : (c : Content) (r : RepoName) (t : TagName) (media : Media) (bytes : ByteList) (q : RepoName) (s : TagName) → (q ≡ r → s ≢ t)
     → tag_at (put_under r (by.Tag t) media bytes c) q s ≡ tag_at c q s
 tag_at-put_under-other c r t media bytes q s apart =
     tag_at-with_tag-other (manifest_alone r media bytes c) r t (digest_of bytes) q s apart
     ∙ tag_at-manifest_alone c r media bytes q s
 
-pub tag_at-put_under-cases : (c : Content) (r t media bytes q s : List ℕ)
+pub tag_at-put_under-cases : (c : Content) (r : RepoName) (t : TagName) (media : Media) (bytes : ByteList) (q : RepoName) (s : TagName)
     → ((q ≡ r) × (s ≡ t) × (tag_at (put_under r (by.Tag t) media bytes c) q s ≡ Some (digest_of bytes)))
     ⊎ (tag_at (put_under r (by.Tag t) media bytes c) q s ≡ tag_at c q s)
 tag_at-put_under-cases c r t media bytes q s =
@@ -85,6 +89,6 @@ tag_at-put_under-cases c r t media bytes q s =
       | inr is ↦ inr (is ∙ tag_at-manifest_alone c r media bytes q s)
     ]
 
-pub tag_at-shown_by_digest : (c : Content) (r : List ℕ) (d : Digest) (media bytes q s : List ℕ)
+pub tag_at-shown_by_digest : (c : Content) (r : RepoName) (d : Digest) (media : Media) (bytes : ByteList) (q : RepoName) (s : TagName)
     → tag_at (put_under r (by.Digest d) media bytes c) q s ≡ tag_at c q s
 tag_at-shown_by_digest c r d media bytes q s = tag_at-manifest_alone c r media bytes q s

@@ -1,5 +1,5 @@
 -- Lemmas on the words of specs/Change.antt.
-use Rattle.std.proofs.Common.{◌≡◌, sym, ap, ◌∙◌, ℕ, List, [], Option, Some, None}
+use Rattle.std.proofs.Common.{◌≡◌, sym, ap, ◌∙◌, List, [], Option, Some, None}
 use Rattle.std.specs.Option.{option_map, unwrap_or}
 use Rattle.std.specs.Map.{keys_of, lookup, set_value}
 use Rattle.std.specs.BTreeMap.{insert_entry, is_at}
@@ -8,17 +8,19 @@ use Rattle.std.specs.Ordering.{nat_cmp}
 use Rattle.std.specs.List.Sorted.{IsStrictlySortedBy}
 use Rattle.std.proofs.lemmas.Cmp.{nat_list_cmp_total}
 use Rattle.std.proofs.lemmas.Map.Steps.{set_value_same}
+use Rattle.hr_name.specs.Name.{RepoName}
+use Rattle.hr_name.specs.Tag.{TagName}
 use Rattle.hr_digest.specs.declared.digest.Digest.{Digest}
-use Rattle.hr_adapter.specs.Content.{Content, Named, Repo, empty_repo, repo_at, with_repo}
+use Rattle.hr_adapter.specs.Content.{Labels, Content, Named, Repo, empty_repo, repo_at, with_repo}
 use Rattle.hr_memreg.specs.Change.{with_moved_tag}
 use Rattle.hr_memreg.proofs.OverLemmas.{insert_over}
 
 -- the repository with those tags
-abbrev pub with_tags : Repo → List (List ℕ × Named) → Repo
+abbrev pub with_tags : Repo → List (TagName × Named) → Repo
 with_tags held tags = record held { tags = tags }
 
 -- a repository that stands there is changed where it stands
-pub with_repo-there : (c : Content) (repo : List ℕ) (change : Repo → Repo) (old new : Repo) (after : Content)
+pub with_repo-there : (c : Content) (repo : RepoName) (change : Repo → Repo) (old new : Repo) (after : Content)
     → IsStrictlySortedBy (slice_cmp nat_cmp) (keys_of c) → lookup (is_at (slice_cmp nat_cmp repo)) c ≡ Some old
     → after ≡ set_value (is_at (slice_cmp nat_cmp repo)) c new → new ≡ change old → after ≡ with_repo c repo change
 unfolding repo_at
@@ -27,7 +29,7 @@ with_repo-there c repo change old new after sorted there is made =
     ∙ ap (insert_entry (slice_cmp nat_cmp) c repo) (made ∙ ap (λ held. change (unwrap_or held empty_repo)) (sym there))
 
 -- a repository that was not changed
-pub with_repo-kept : (c : Content) (repo : List ℕ) (old new : Repo) (after : Content)
+pub with_repo-kept : (c : Content) (repo : RepoName) (old new : Repo) (after : Content)
     → lookup (is_at (slice_cmp nat_cmp repo)) c ≡ Some old
     → after ≡ set_value (is_at (slice_cmp nat_cmp repo)) c new → new ≡ old → after ≡ c
 with_repo-kept c repo old new after there is same =
@@ -35,7 +37,7 @@ with_repo-kept c repo old new after there is same =
     ∙ set_value_same (is_at (slice_cmp nat_cmp repo)) c old there
 
 -- a new repository holds nothing before
-pub with_repo-new : (c : Content) (repo key : List ℕ) (change : Repo → Repo) (new : Repo) (after : Content)
+pub with_repo-new : (c : Content) (repo key : RepoName) (change : Repo → Repo) (new : Repo) (after : Content)
     → lookup (is_at (slice_cmp nat_cmp repo)) c ≡ None → key ≡ repo → new ≡ change empty_repo
     → after ≡ insert_entry (slice_cmp nat_cmp) c key new → after ≡ with_repo c repo change
 unfolding repo_at
@@ -44,7 +46,7 @@ with_repo-new c repo key change new after none same made is =
     ∙ ap (insert_entry (slice_cmp nat_cmp) c repo) (made ∙ ap (λ held. change (unwrap_or held empty_repo)) (sym none))
 
 -- a tag that stands there is moved where it stands
-pub moved-there : (held : Repo) (tag : List ℕ) (d : Digest) (labels : List (List ℕ)) (old : Named) (after : List (List ℕ × Named))
+pub moved-there : (held : Repo) (tag : TagName) (d : Digest) (labels : Labels) (old : Named) (after : List (TagName × Named))
     → labels ≡ old.labels
     → IsStrictlySortedBy (slice_cmp nat_cmp) (keys_of held.tags)
     → lookup (is_at (slice_cmp nat_cmp tag)) held.tags ≡ Some old

@@ -1,5 +1,5 @@
-pub mod ChangeLemmas
-pub mod OverLemmas
-pub mod ShownLemmas
-pub mod MemLemmas
-pub mod ListedLemmas
+mod ChangeLemmas
+mod ListedLemmas
+mod MemLemmas
+mod OverLemmas
+mod ShownLemmas

@@ -1,5 +1,5 @@
 -- Lemmas on the words of specs/Listed.antt.
-use Rattle.std.proofs.Common.{◌≡◌, ◌++◌, refl, sym, ap, subst, ◌∙◌, ℕ, List, [], ◌∷◌, map, append_assoc}
+use Rattle.std.proofs.Common.{◌≡◌, ◌++◌, refl, sym, ap, subst, ◌∙◌, List, [], ◌∷◌, map, append_assoc}
 use Rattle.std.proofs.lemmas.List.{append-nil}
 use Rattle.std.specs.List.{AllByRecursion}
 use Rattle.std.specs.List.Sorted.{IsStrictlySortedBy}
@@ -11,6 +11,8 @@ use Rattle.std.specs.Ordering.{match_ordering, nat_cmp, ordering_reverse}
 use Rattle.std.specs.declared.cmp.Ordering.{Ordering}
 use Rattle.std.specs.declared.cmp.Ordering.TheVariants.{Less, Greater}
 use Rattle.std.proofs.lemmas.Cmp.{nat_list_cmp_total}
+use Rattle.hr_base.specs.Bytes.{ByteList}
+use Rattle.hr_name.specs.Tag.{TagName}
 use Rattle.hr_digest.specs.Order.{digest_cmp, digests_ordered}
 use Rattle.hr_digest.specs.declared.digest.Digest.{Digest}
 use Rattle.hr_event.specs.declared.reference.Fetched.{Fetched}
@@ -54,11 +56,11 @@ pub map_back : {A B : Type 0} (f : A → B) (g : B → A) → ((x : B) → f (g 
 map_back f g back [] = refl
 map_back f g back (x ∷ xs) = ap (λ h. h ∷ map f (map g xs)) (back x) ∙ ap (λ t. x ∷ t) (map_back f g back xs)
 
-abbrev repo_with : List (Digest × List ℕ) → List (Digest × Fetched) → List (List ℕ × Named) → Repo
+abbrev repo_with : List (Digest × ByteList) → List (Digest × Fetched) → List (TagName × Named) → Repo
 repo_with blobs manifests tags = record { blobs = blobs; manifests = manifests; tags = tags }
 
 -- entries that are in order, as lines, are the same entries again
-blobs_again : (es : List (Digest × List ℕ)) (lines : List BlobAt) → lines ≡ map blob_line es
+blobs_again : (es : List (Digest × ByteList)) (lines : List BlobAt) → lines ≡ map blob_line es
     → IsStrictlySortedBy digest_cmp (keys_of es) → put_all digest_cmp [] (map blob_entry lines) ≡ es
 blobs_again es lines made sorted =
     ap (λ ls. put_all digest_cmp [] (map blob_entry ls)) made
@@ -70,7 +72,7 @@ manifests_again es lines made sorted =
     ap (λ ls. put_all digest_cmp [] (map manifest_entry ls)) made
     ∙ ap (put_all digest_cmp []) (map_back manifest_entry manifest_line (λ x. refl) es) ∙ put_all_sorted digests_ordered es sorted
 
-tags_again : (es : List (List ℕ × Named)) (lines : List TagAt) → lines ≡ map tag_line es
+tags_again : (es : List (TagName × Named)) (lines : List TagAt) → lines ≡ map tag_line es
     → IsStrictlySortedBy (slice_cmp nat_cmp) (keys_of es) → put_all (slice_cmp nat_cmp) [] (map tag_entry lines) ≡ es
 tags_again es lines made sorted =
     ap (λ ls. put_all (slice_cmp nat_cmp) [] (map tag_entry ls)) made

@@ -1,5 +1,5 @@
 -- Lemmas on the words of specs/Shown.antt.
-use Rattle.std.proofs.Common.{◌≡◌, refl, sym, ap, subst, ◌∙◌, ℕ, Bool, true, false, cond, List, [], ◌∷◌, Option, Some, None}
+use Rattle.std.proofs.Common.{◌≡◌, refl, sym, ap, subst, ◌∙◌, ℕ, Bool, true, false, cond, List, [], ◌∷◌, ◌++◌, Option, Some, None}
 use Rattle.std.specs.Prelude.{IfSome, Contains}
 use Rattle.std.specs.List.{cons_option, filter_map, flat_map}
 use Rattle.std.specs.Option.{option_and_then, option_map}
@@ -8,13 +8,16 @@ use Rattle.std.specs.BTreeMap.{is_at}
 use Rattle.std.specs.Cmp.{Equal-is}
 use Rattle.std.specs.Cmp.Lexicographic.{slice_cmp}
 use Rattle.std.specs.Ordering.{is_eq, nat_cmp}
+use Rattle.std.proofs.lemmas.List.{flat_map_more}
 use Rattle.std.proofs.lemmas.List.Elements.{Contains-append_left, Contains-append_right, Contains-push}
+use Rattle.hr_name.specs.Name.{RepoName}
+use Rattle.hr_name.specs.Tag.{TagName}
 use Rattle.hr_digest.specs.Order.{digest_cmp}
 use Rattle.hr_event.specs.declared.reference.Fetched.{Fetched}
 use Rattle.hr_adapter.specs.Content.{Content, Named, Repo, repo_at, manifest_at, named_at}
 use Rattle.hr_adapter.specs.Reg.{AreShown, Row}
 use Rattle.hr_adapter.proofs.ContentLaws.{name_tie}
-use Rattle.hr_memreg.specs.Shown.{row_shown, rows_shown}
+use Rattle.hr_memreg.specs.Shown.{row_shown, rows_ever, rows_shown}
 
 -- a look-up by bytes finds the head, or goes on
 found_cases : {X : Type 0} (q k : List ℕ) (x y : X) (rest : Option X) (P : Type 0)
@@ -35,8 +38,8 @@ contains_more None rows row h = h
 contains_more (Some x) rows row h = Contains-append_right (x ∷ []) rows row h
 
 -- the row of a tag that a look-up finds is among those of its repository
-tag_row : (repo : List ℕ × Repo) (t : List ℕ) (named : Named) (row : Row) → row_shown repo (t, named) ≡ Some row
-    → (ts : List (List ℕ × Named)) → lookup (is_at (slice_cmp nat_cmp t)) ts ≡ Some named
+tag_row : (repo : RepoName × Repo) (t : TagName) (named : Named) (row : Row) → row_shown repo (t, named) ≡ Some row
+    → (ts : List (TagName × Named)) → lookup (is_at (slice_cmp nat_cmp t)) ts ≡ Some named
     → Contains (filter_map (row_shown repo) ts) row
 tag_row repo t named row is [] found = cc
 tag_row repo t named row is (e ∷ ts) found =
@@ -49,11 +52,11 @@ tag_row repo t named row is (e ∷ ts) found =
     (λ more. contains_more (row_shown repo e) (filter_map (row_shown repo) ts) row (tag_row repo t named row is ts more))
     (is_eq (slice_cmp nat_cmp t e.0)) refl
 
-abbrev rows_in : List ℕ × Repo → List Row
+abbrev rows_in : RepoName × Repo → List Row
 rows_in repo = filter_map (row_shown repo) repo.1.tags
 
 -- the rows of a repository that a look-up finds are among all
-repo_rows : (q : List ℕ) (held : Repo) (row : Row) → Contains (rows_in (q, held)) row
+repo_rows : (q : RepoName) (held : Repo) (row : Row) → Contains (rows_in (q, held)) row
     → (c : Content) → lookup (is_at (slice_cmp nat_cmp q)) c ≡ Some held → Contains (flat_map rows_in c) row
 repo_rows q held row is [] found = cc
 repo_rows q held row is (e ∷ c) found =
@@ -65,7 +68,7 @@ repo_rows q held row is (e ∷ c) found =
     (λ more. Contains-append_right (rows_in e) (flat_map rows_in c) row (repo_rows q held row is c more))
     (is_eq (slice_cmp nat_cmp q e.0)) refl
 
-abbrev HasRow : List Row → List ℕ → List ℕ → Fetched → Type 0
+abbrev HasRow : List Row → RepoName → TagName → Fetched → Type 0
 HasRow rows q t m = Contains rows (record { repo = q; tag = t; media = m.media; bytes = m.bytes })
 
 -- what a tag of one repository leads to
@@ -76,13 +79,13 @@ manifest_rows : {P : Fetched → Type 0} (o : Option Fetched) → ((m : Fetched)
 manifest_rows None h = tt
 manifest_rows (Some m) h = h m refl
 
-named_rows : (rows : List Row) (q t : List ℕ) (held : Repo) (named : Option Named)
+named_rows : (rows : List Row) (q : RepoName) (t : TagName) (held : Repo) (named : Option Named)
     → ((n : Named) (m : Fetched) → named ≡ Some n → manifest_named held n ≡ Some m → HasRow rows q t m)
     → IfSome (option_and_then (λ d. lookup (is_at (digest_cmp d)) held.manifests) (option_map (λ n. n.digest) named)) (HasRow rows q t)
 named_rows rows q t held None h = tt
 named_rows rows q t held (Some n) h = manifest_rows (manifest_named held n) (λ m is. h n m refl is)
 
-repo_shown : (rows : List Row) (q t : List ℕ) (o : Option Repo)
+repo_shown : (rows : List Row) (q : RepoName) (t : TagName) (o : Option Repo)
     → ((held : Repo) (n : Named) (m : Fetched) → o ≡ Some held → lookup (is_at (slice_cmp nat_cmp t)) held.tags ≡ Some n
     → manifest_named held n ≡ Some m → HasRow rows q t m)
     → IfSome (option_and_then (λ d. option_and_then (λ held. lookup (is_at (digest_cmp d)) held.manifests) o)
@@ -99,3 +102,8 @@ AreShown-rows_shown c q t =
     (λ held n m is named there. repo_rows q held (record { repo = q; tag = t; media = m.media; bytes = m.bytes })
     (tag_row (q, held) t n (record { repo = q; tag = t; media = m.media; bytes = m.bytes })
     (ap (option_map (λ (m : Fetched). let row : Row = record { repo = q; tag = t; media = m.media; bytes = m.bytes } in row)) there) held.tags named) c is)
+
+-- one content more adds its rows
+pub rows_ever-then : (contents : List Content) (c : Content)
+    → rows_ever (contents ++ c ∷ []) ≡ rows_ever contents ++ rows_shown c
+rows_ever-then contents c = sym (flat_map_more rows_shown [] contents c)

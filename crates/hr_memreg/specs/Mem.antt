@@ -2,10 +2,13 @@
 use Rattle.std.specs.Prelude.{ℕ, ◌+◌, ◌-◌, ◌^◌, min, true, List, [], ◌++◌, Some}
 use Rattle.hr_digest.specs.Digest.{digest_of}
 use Rattle.hr_event.specs.declared.reference.Fetched.{Fetched}
+use Rattle.hr_name.specs.Name.{RepoName}
+use Rattle.hr_name.specs.Tag.{TagName}
 use Rattle.hr_adapter.specs.Content.{Content, with_manifest, with_tag}
 use Rattle.hr_adapter.specs.Reg.{Reg, Row}
 use Rattle.hr_memreg.specs.Shown.{rows_shown}
 
+-- a registry in memory
 pub record Mem : Type 0 where
   -- what it holds
   pub content : Content
@@ -16,32 +19,32 @@ pub record Mem : Type 0 where
   -- how often it failed, at most 2^64 - 1
   pub faults : ℕ
 
--- it holds nothing, and was asked for nothing
+-- a registry that holds nothing, and was asked for nothing
 abbrev pub empty_mem : Mem
 empty_mem = record { content = []; ever = []; operations = 0; faults = 0 }
 
--- it holds that content, and was asked for nothing
+-- a registry that holds a content, and was asked for nothing
 abbrev pub new_mem : Content → Mem
 new_mem c = record { content = c; ever = rows_shown c; operations = 0; faults = 0 }
 
--- it tells its content, nothing is planned, and it can't fail
+-- a registry in memory as a connection: it tells its content, nothing is planned, and it can't fail
 abbrev pub seen_of : Mem → Reg
 seen_of m = record { told = Some m.content; coming = Some m.content; ever = m.ever; faults = m.faults; quiet = true; sure = true }
 
--- after one operation more
-abbrev pub counted : Mem → Mem
-counted m = record m { operations = min (m.operations + 1) (2 ^ 64 - 1) }
+-- a registry after one operation more
+abbrev pub after_operation : Mem → Mem
+after_operation m = record m { operations = min (m.operations + 1) (2 ^ 64 - 1) }
 
--- with another content, and what its tags show among all that was shown
+-- a registry with another content, and with what its tags show behind all that was ever shown
 abbrev pub after_change : Mem → Content → Mem
 after_change m c = record m { content = c; ever = m.ever ++ rows_shown c }
 
--- after a manifest was stored under its digest
-abbrev pub alone_as : Fetched → List ℕ → Mem → Mem
+-- a registry after a manifest was stored under its digest
+abbrev pub alone_as : Fetched → RepoName → Mem → Mem
 alone_as manifest repo m = after_change m (with_manifest m.content repo (digest_of manifest.bytes) manifest)
 
--- after a manifest was stored under its digest, and a tag moved to it
-abbrev pub shown_as : List ℕ → Fetched → List ℕ → Mem → Mem
+-- a registry after a manifest was stored under its digest, and a tag moved to it
+abbrev pub shown_as : TagName → Fetched → RepoName → Mem → Mem
 shown_as tag manifest repo m =
     let stored = alone_as manifest repo m in
     after_change stored (with_tag stored.content repo tag (digest_of manifest.bytes))

@@ -3,8 +3,8 @@
 ghost use Rattle.hr_memreg.specs.Mem.{seen_of};
 
 use crate::MemRegistry;
-use hr_adapter::{BLOB_LIMIT, MANIFEST_LIMIT, RegFault, Registry, TagNow, Tagged};
-use hr_base::{Bytes, List, Memory};
+use hr_adapter::{BLOB_LIMIT, RegFault, Registry, TagNow, Tagged};
+use hr_base::{Bytes, List, MANIFEST_LIMIT, Memory};
 use hr_digest::Digest;
 use hr_event::{Fetched, Reference};
 use hr_name::Name;

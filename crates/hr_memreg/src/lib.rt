@@ -11,7 +11,6 @@ mod registry;
 mod repository;
 #[cfg(test)]
 mod tests;
-mod trail;
 
 pub use content::{BlobAt, Content, ManifestAt, RepoContent, TagAt};
 pub use registry::MemRegistry;

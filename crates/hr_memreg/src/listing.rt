@@ -99,7 +99,7 @@ impl Held {
 }
 
 impl Repository {
-    /// All tags with their labels.
+    // All tags with their labels, where they are no more than are listed.
     fn tagged_within(&self, alloc: Global) -> Result<List<Tagged>, RegFault>
         ensures ok { IfOk result (λ tags. tags ≡ map tagged_of self.now.tags) }
         ensures short { IfOk result (λ tags. length tags ≤ LIST_LIMIT) }

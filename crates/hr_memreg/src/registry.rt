@@ -4,25 +4,27 @@ ghost use Rattle.std.specs.Option.{option_copied};
 ghost use Rattle.hr_adapter.specs.Content.{manifest_at, tag_at, with_blob, with_manifest, with_repo, with_tag};
 ghost use Rattle.hr_adapter.specs.Reg.{IsSound};
 ghost use Rattle.hr_memreg.specs.Listed.{content_of, lines_of};
-ghost use Rattle.hr_memreg.specs.Mem.{after_change, alone_as, counted, empty_mem, new_mem, seen_of, shown_as};
+ghost use Rattle.hr_memreg.specs.Mem.{after_change, after_operation, alone_as, empty_mem, new_mem, seen_of, shown_as};
 
 use crate::Content;
 use crate::held::Held;
 use crate::repository::Change;
-use crate::trail::Trail;
-use hr_base::{Bytes, Memory};
+use hr_base::{Bytes, Memory, Trace};
 use hr_digest::Digest;
 use hr_event::Fetched;
 use hr_name::{Name, Tag};
 use std::alloc::Global;
 use std::marker::Model;
 
+#[cfg(test)]
+mod tests;
+
 /// A registry in memory. It counts its operations, from 1 to `2^64 - 1`, where they stay.
 #[derive(Drop)]
 pub struct MemRegistry {
     pub(crate) alloc: Global,
     pub(crate) held: Held,
-    trail: Trail,
+    trace: Trace<Held>,
     operations: u64,
     faults: u64,
 }
@@ -30,17 +32,18 @@ pub struct MemRegistry {
 impl Model for MemRegistry {
     ghost use Rattle.hr_adapter.specs.Reg.{AreShown};
     ghost use Rattle.hr_memreg.specs.Mem.{Mem};
+    ghost use Rattle.hr_memreg.specs.Shown.{rows_ever};
 
     ghost Value = { Mem };
 
     ghost view = { λ registry. record {
       content = registry.held;
-      ever = registry.trail.rows;
+      ever = rows_ever registry.trace.items;
       operations = registry.operations;
       faults = registry.faults;
     } };
 
-    ghost invariant = { λ registry. AreShown registry.held registry.trail.rows };
+    ghost invariant = { λ registry. AreShown registry.held (rows_ever registry.trace.items) };
 }
 
 impl MemRegistry {
@@ -53,7 +56,7 @@ impl MemRegistry {
         MemRegistry {
             alloc,
             held: Held::new(alloc),
-            trail: Trail::new(),
+            trace: Trace::new(),
             operations: 0,
             faults: 0,
         }
@@ -64,11 +67,11 @@ impl MemRegistry {
         ensures { IfOk result (λ registry. registry ≡ new_mem (content_of content)) }
     {
         let held = Held::of(alloc, content)?;
-        let trail = Trail::with(&Trail::new(), &held);
+        let trace = Trace::new().then(&held);
         Ok(MemRegistry {
             alloc,
             held,
-            trail,
+            trace,
             operations: 0,
             faults: 0,
         })
@@ -143,7 +146,7 @@ impl MemRegistry {
 
     /// Counts an operation.
     pub(crate) fn count_operation(&mut self)
-        ensures counted { self.new ≡ counted self.old }
+        ensures counted { self.new ≡ after_operation self.old }
         ensures sound { IsSound (seen_of self.new) }
     {
         self.operations = self.operations.saturating_add(1);
@@ -170,7 +173,7 @@ impl MemRegistry {
         ensures sound { IsSound (seen_of self.new) }
     {
         self.held.change(self.alloc, repo, change)?;
-        self.trail = Trail::with(&self.trail, &self.held);
+        self.trace = self.trace.then(&self.held);
         Ok(())
     }
 }

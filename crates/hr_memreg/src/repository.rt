@@ -120,7 +120,7 @@ impl Repository {
         }
     }
 
-    /// Makes a tag name a digest. Its labels stay.
+    // Makes a tag name a digest. Its labels stay.
     fn move_tag(&mut self, alloc: Global, tag: Tag, digest: Digest) -> Result<(), Memory>
         ensures ok { OnOk result (self.new ≡ with_moved_tag tag digest self.old) }
         ensures err { OnErr result (self.new ≡ self.old) }

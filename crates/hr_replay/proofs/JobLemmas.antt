@@ -17,7 +17,7 @@ use Rattle.hr_copy.specs.Evidence.{Evidence, HasOther, IsCaused, IsGone, NewestI
 use Rattle.hr_copy.specs.Going.{AreFound}
 use Rattle.hr_copy.specs.Outcome.{Obeys, Ran, entry_of}
 use Rattle.hr_journal.specs.Shown.{AreAlike}
-use Rattle.hr_journal.proofs.LogLemmas.{contains_cases}
+use Rattle.hr_journal.proofs.ListLaws.{contains_cases}
 use Rattle.hr_replay.specs.Run.{AreCaused, AreFinal, EndsShown, IsShownBy, NewestShown, RanJobs, end_of, from_of, task_of, to_of, turn_of}
 
 -- ---- the entries of one job

@@ -8,6 +8,7 @@ use Rattle.hr_event.specs.declared.task.TaskSpec.{TaskSpec}
 use Rattle.hr_adapter.specs.Content.{Content}
 use Rattle.hr_adapter.specs.Listing.{repos_of, tags_of}
 use Rattle.hr_adapter.specs.declared.listed.Tagged.{Tagged}
+use Rattle.hr_adapter.specs.declared.registry.TheConstants.{LIST_LIMIT}
 use Rattle.hr_replay.specs.Plan.{are_listed, is_short, plan_of, spec_of, specs_for, specs_of}
 
 le_true : (m n : ℕ) → m ≤ n → nat_le m n ≡ true
@@ -58,10 +59,10 @@ not_all p (y ∷ ys) (suc at) x within is fails = step (p y) (list_all p ys) (no
 -- ---- repository by repository
 
 pub listed_more : (c : Content) (names : List (List ℕ)) (at : ℕ) (name : List ℕ) (tags : List Tagged) → are_listed c (take at names) ≡ true
-    → at < length names → name ≡ get_or names at name → length tags ≤ 65536 → tags ≡ tags_of c name → are_listed c (take (at + 1) names) ≡ true
+    → at < length names → name ≡ get_or names at name → length tags ≤ LIST_LIMIT → tags ≡ tags_of c name → are_listed c (take (at + 1) names) ≡ true
 listed_more c names at name tags listed within is few found =
     let p : List ℕ → Bool = λ repo. is_short (tags_of c repo) in
-    let short : p name ≡ true = le_true (length (tags_of c name)) 65536 (subst (λ (ts : List Tagged). length ts ≤ 65536) found few) in
+    let short : p name ≡ true = le_true (length (tags_of c name)) LIST_LIMIT (subst (λ (ts : List Tagged). length ts ≤ LIST_LIMIT) found few) in
     subst (λ (l : List (List ℕ)). are_listed c l ≡ true) (sym (take_more names at name within ∙ ap (λ (n : List ℕ). take at names ++ n ∷ []) (sym is)))
     (all_more p (take at names) name listed short)
 
@@ -77,27 +78,27 @@ specs_more c names at name tags specs new so_far within is found made =
     made ∙ ap (λ (l : List TaskSpec). l ++ specs_for name tags) so_far
     ∙ ap (λ (ts : List Tagged). specs_of c (take at names) ++ specs_for name ts) found ∙ sym step
 
-pub plan_found : (c : Content) (names : List (List ℕ)) (specs : List TaskSpec) (at : ℕ) → names ≡ repos_of c → length names ≤ 65536 → length names ≤ at
+pub plan_found : (c : Content) (names : List (List ℕ)) (specs : List TaskSpec) (at : ℕ) → names ≡ repos_of c → length names ≤ LIST_LIMIT → length names ≤ at
     → specs ≡ specs_of c (take at names) → are_listed c (take at names) ≡ true → Some specs ≡ plan_of c
 plan_found c names specs at is few past made listed =
     let all : take at names ≡ repos_of c = take_all at names past ∙ is in
-    let short : is_short (repos_of c) ≡ true = le_true (length (repos_of c)) 65536 (subst (λ (l : List (List ℕ)). length l ≤ 65536) is few) in
+    let short : is_short (repos_of c) ≡ true = le_true (length (repos_of c)) LIST_LIMIT (subst (λ (l : List (List ℕ)). length l ≤ LIST_LIMIT) is few) in
     let each : are_listed c (repos_of c) ≡ true = subst (λ (l : List (List ℕ)). are_listed c l ≡ true) all listed in
     ap Some (made ∙ ap (specs_of c) all)
     ∙ sym (if_both (is_short (repos_of c)) (are_listed c (repos_of c)) (specs_of c (repos_of c)) short each)
 
 -- ---- too long
 
-pub many_repos : (c : Content) (len : ℕ) → 65536 < len → length (repos_of c) ≡ len → None ≡ plan_of c
+pub many_repos : (c : Content) (len : ℕ) → LIST_LIMIT < len → length (repos_of c) ≡ len → None ≡ plan_of c
 many_repos c len long is =
     sym (if_not_first (is_short (repos_of c)) (are_listed c (repos_of c)) (specs_of c (repos_of c))
-    (le_false (length (repos_of c)) 65536 (omega (arith, long, is))))
+    (le_false (length (repos_of c)) LIST_LIMIT (omega (arith, long, is))))
 
 pub many_tags : (c : Content) (names : List (List ℕ)) (at : ℕ) (name : List ℕ) (len : ℕ) → names ≡ repos_of c → at < length names → name ≡ get_or names at name
-    → 65536 < len → length (tags_of c name) ≡ len → None ≡ plan_of c
+    → LIST_LIMIT < len → length (tags_of c name) ≡ len → None ≡ plan_of c
 many_tags c names at name len is within here long found =
     let p : List ℕ → Bool = λ repo. is_short (tags_of c repo) in
-    let fails : are_listed c names ≡ false = not_all p names at name within here (le_false (length (tags_of c name)) 65536 (omega (arith, long, found))) in
+    let fails : are_listed c names ≡ false = not_all p names at name within here (le_false (length (tags_of c name)) LIST_LIMIT (omega (arith, long, found))) in
     sym (if_not_second (is_short (repos_of c)) (are_listed c (repos_of c)) (specs_of c (repos_of c))
     (subst (λ (l : List (List ℕ)). are_listed c l ≡ false) is fails))
 

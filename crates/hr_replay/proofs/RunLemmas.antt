@@ -11,11 +11,11 @@ use Rattle.hr_event.specs.declared.task.TaskSpec.{TaskSpec}
 use Rattle.hr_adapter.specs.Content.{Content, Honest}
 use Rattle.hr_copy.specs.Going.{AreFound}
 use Rattle.hr_journal.specs.Promise.{Promise}
-use Rattle.hr_journal.proofs.AgreeLemmas.{promise_alike}
-use Rattle.hr_journal.proofs.PromiseLemmas.{promise_opens}
+use Rattle.hr_journal.proofs.PromiseLaws.{promise_alike, promise_opens}
 use Rattle.hr_replay.specs.Fit.{IsScripted}
 use Rattle.hr_replay.specs.Opening.{Contents, content_in}
-use Rattle.hr_replay.specs.Plan.{job_limit, plan_of}
+use Rattle.hr_replay.specs.Plan.{plan_of}
+use Rattle.hr_replay.specs.declared.events.TheConstants.{JOB_LIMIT}
 use Rattle.hr_replay.specs.Replay.{Holds}
 use Rattle.hr_replay.proofs.JobLemmas.{are_final, caused_more, found_alike, job_caused, ran_more, ran_then, to_alike}
 use Rattle.hr_replay.specs.Run.{AreCaused, AreDone, Does, Finishes, Goes, IsDone, IsOrdered, NewestShown, RanJob, RanJobs, Runs, State, Triggers, from_of, opening, task_of, to_of}
@@ -145,7 +145,7 @@ triggers_ordered before (Some specs) text after is does = ⊎_elim
     (λ made. along_ordered _ after made.1 (made_ordered made.0))
     (λ full. along_ordered before after full.1 is) does
   where
-    made_ordered : length before.tasks + length specs ≤ job_limit → IsOrdered (record before { tasks = before.tasks ++ specs; execs = before.execs ++ Some (length specs) ∷ [] })
+    made_ordered : length before.tasks + length specs ≤ JOB_LIMIT → IsOrdered (record before { tasks = before.tasks ++ specs; execs = before.execs ++ Some (length specs) ∷ [] })
     made_ordered few =
         let known = is.known in
         let sum : length (before.tasks ++ specs) ≡ length before.tasks + length specs = length-append before.tasks specs in

@@ -5,6 +5,7 @@ use Rattle.hr_event.specs.declared.task.TaskSpec.{TaskSpec}
 use Rattle.hr_adapter.specs.Content.{Content}
 use Rattle.hr_adapter.specs.Listing.{repos_of, tags_of}
 use Rattle.hr_adapter.specs.declared.listed.Tagged.{Tagged}
+use Rattle.hr_adapter.specs.declared.registry.TheConstants.{LIST_LIMIT}
 
 -- the task of a repository: all its tags, from registry 1 to registry 2, in one attempt
 abbrev pub spec_of : List ℕ → List Tagged → TaskSpec
@@ -30,7 +31,7 @@ specs_of c repos = flat_map (λ repo. specs_for repo (tags_of c repo)) repos
 
 -- a list is not longer than may be listed
 abbrev pub is_short : {X : Type 0} → List X → Bool
-is_short items = nat_le (length items) 65536
+is_short items = nat_le (length items) LIST_LIMIT
 
 -- the tags of each of these repositories can be listed
 abbrev pub are_listed : Content → List (List ℕ) → Bool
@@ -40,7 +41,3 @@ are_listed c repos = list_all (λ repo. is_short (tags_of c repo)) repos
 abbrev pub plan_of : Content → Option (List TaskSpec)
 plan_of c = if is_short (repos_of c) && are_listed c (repos_of c)
     then Some (specs_of c (repos_of c)) else None
-
--- how many jobs there are at most
-abbrev pub job_limit : ℕ
-job_limit = 16384

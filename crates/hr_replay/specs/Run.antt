@@ -19,7 +19,8 @@ use Rattle.hr_copy.specs.Going.{AreFound}
 use Rattle.hr_copy.specs.Outcome.{IsFinished, Ran}
 use Rattle.hr_journal.specs.Promise.{Promise}
 use Rattle.hr_replay.specs.Opening.{Contents, content_in}
-use Rattle.hr_replay.specs.Plan.{plan_of, job_limit}
+use Rattle.hr_replay.specs.Plan.{plan_of}
+use Rattle.hr_replay.specs.declared.events.TheConstants.{JOB_LIMIT}
 use Rattle.hr_replay.specs.Text.{created_text, failed_text, full_text, idle_text, no_policy_text, tags_text}
 
 -- what a script has made so far
@@ -128,14 +129,14 @@ Triggers before None text after =
     (after ≡ record before { execs = before.execs ++ None ∷ [] })
     × (text ≡ failed_text (length before.execs + 1))
 Triggers before (Some specs) text after =
-    ((length before.tasks + length specs ≤ job_limit)
+    ((length before.tasks + length specs ≤ JOB_LIMIT)
     × (after ≡ record before {
       tasks = before.tasks ++ specs;
       execs = before.execs ++ Some (length specs) ∷ [];
     })
     × (text ≡ created_text (length before.execs + 1) (length specs)))
-    ⊎ ((job_limit < length before.tasks + length specs) × (after ≡ before)
-    × (text ≡ full_text job_limit))
+    ⊎ ((JOB_LIMIT < length before.tasks + length specs) × (after ≡ before)
+    × (text ≡ full_text JOB_LIMIT))
 
 -- what an event makes of a state, and its answer
 abbrev pub Does : State → Event → List ℕ → State → Type 0
@@ -170,5 +171,5 @@ IsDone state = AreDone state.execs state.ends (length state.tasks)
 -- what holds of a state at each moment: eight registries, few jobs, and no end before its job
 pub record IsOrdered (state : State) : Type 0 where
   pub eight : length state.contents ≡ 8
-  pub few : length state.tasks ≤ job_limit
+  pub few : length state.tasks ≤ JOB_LIMIT
   pub known : length state.ends ≤ length state.tasks

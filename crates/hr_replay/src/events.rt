@@ -4,7 +4,7 @@ ghost use Rattle.hr_event.specs.declared.event.Event.TheVariants as event;
 ghost use Rattle.hr_adapter.specs.Content.{Content};
 ghost use Rattle.hr_replay.specs.Fit.{IsNumbered, IsScripted};
 ghost use Rattle.hr_replay.specs.Opening.{content_in};
-ghost use Rattle.hr_replay.specs.Plan.{job_limit, plan_of};
+ghost use Rattle.hr_replay.specs.Plan.{plan_of};
 ghost use Rattle.hr_replay.specs.Run.{Does, IsOrdered, Triggers};
 ghost use Rattle.hr_replay.specs.Text.{tags_text};
 
@@ -15,7 +15,7 @@ use hr_base::{List, Memory, PolicyNo, RegNo};
 use hr_event::{Event, TaskSpec};
 use std::alloc::Global;
 
-/// How many jobs there are at most.
+// How many jobs there are at most.
 const JOB_LIMIT: usize = 16_384;
 
 impl Session {

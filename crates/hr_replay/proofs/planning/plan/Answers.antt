@@ -1,4 +1,5 @@
 use Rattle.std.proofs.Common.{◌≤◌, List, ℕ, length, sym, subst, ◌∙◌}
+use Rattle.hr_adapter.specs.declared.registry.TheConstants.{LIST_LIMIT}
 use Rattle.hr_replay.proofs.PlanLemmas.{listed_more, plan_found, specs_more}
 use Rattle.hr_replay.proofs.planning.plan.Goals as goal
 
@@ -16,4 +17,4 @@ pub returns : goal.returns
 returns c =
     let named = c.in-Ok.ensures in
     plan_found c.args.source.now.content c.view-name-items.result.now c.loop-name.specs c.loop-name.name-index (c.view-name-items.ensures ∙ named.ok)
-    (subst (λ (l : List (List ℕ)). length l ≤ 65536) (sym c.view-name-items.ensures) named.short) c.loop-name-test.false c.loop-name.invariant.made c.loop-name.invariant.listed
+    (subst (λ (l : List (List ℕ)). length l ≤ LIST_LIMIT) (sym c.view-name-items.ensures) named.short) c.loop-name-test.false c.loop-name.invariant.made c.loop-name.invariant.listed
