@@ -1,7 +1,5 @@
-pub mod CaseLemmas
-pub mod HexLemmas
+pub mod CaseLaws
 pub mod MeaningLemmas
-pub mod NumberLemmas
 pub mod OneLemmas
 pub mod ReadingLemmas
 pub mod SplitLemmas

@@ -1,7 +1,6 @@
 -- Each meaning has one right answer and no other, and so has each text.
-use Rattle.std.proofs.Common.{◌≡◌, ◌+◌, ◌||◌, ◌&&◌, ℕ, Bool, true, false, List, [], ◌∷◌, Option, Some, None, Result, Ok, Err, refl, sym, ap, ◌∙◌, subst}
-use Rattle.hex.proofs.HexLemmas.{decode_of-encode_lower}
-use Rattle.hex.specs.Hex.{decode_of}
+use Rattle.std.proofs.Common.{◌≡◌, ◌+◌, ℕ, Bool, true, false, List, [], ◌∷◌, Option, Some, None, Result, Ok, Err, refl, sym, ap, ◌∙◌, subst}
+use Rattle.hr_base.specs.Bytes.{Text}
 use Rattle.hr_base.specs.declared.number.PolicyNo.{PolicyNo}
 use Rattle.hr_base.specs.declared.number.RegNo.{RegNo}
 use Rattle.hr_event.specs.declared.event.Event.TheVariants as event
@@ -12,12 +11,16 @@ use Rattle.hr_script.specs.declared.line.Line.TheVariants.{Image, Index, Orphan,
 use Rattle.hr_script.specs.declared.reading.Lines.{Lines}
 use Rattle.hr_script.specs.declared.refusal.Why.{Why}
 use Rattle.hr_script.specs.declared.refusal.Why.TheVariants as why
-use Rattle.hr_script.specs.Kind.{is_setup, kind_in, kind_of}
+use Rattle.hr_text.proofs.HexLaws.{spelled_once}
+use Rattle.hr_text.proofs.NumberLaws.{one_number}
+use Rattle.hr_script.specs.declared.progress.Progress.{Progress}
+use Rattle.hr_script.specs.Kind.{kind_in, kind_of}
 use Rattle.hr_script.specs.Line.{arguments_of, finish_of, image_of, index_of, line_meaning, manifest_of, meaning_of, orphan_of, tags_of, trigger_of, unless_misplaced, where_read}
 use Rattle.hr_script.specs.Meaning.{Follows, Meaning, each, stands_for, ◌>>=◌}
 use Rattle.hr_script.specs.Reading.{AreRead, GoesOn, IsReading, nothing, stopped, with_line}
+use Rattle.hr_script.specs.Progress.{at_start, is_misplaced, progress_after}
 use Rattle.hr_script.specs.Text.{is_read, lines_of, words_of}
-use Rattle.hr_script.specs.Word.{IsLayerWord, IsMedia, IsNameWord, IsNumber, IsRegistry, IsTagWord, layer_in, media_in, name_in, policy_in, registry_in, tag_in}
+use Rattle.hr_script.specs.Word.{IsLayerWord, IsMedia, IsNameWord, IsRegistry, IsSmallNumber, IsTagWord, layer_in, media_in, name_in, policy_in, registry_in, tag_in}
 
 -- two right answers are equal, and there is no want of one
 pub record IsOne {A : Type 0} (meaning : Meaning A) : Type 0 where
@@ -58,72 +61,65 @@ one_each of one (word ∷ words) = one_chain (of word) _ (one word) (λ value. o
 
 -- ---- words
 
-one_registry : (word : List ℕ) → IsOne (registry_in word)
+one_registry : (word : Text) → IsOne (registry_in word)
 one_registry word = one_value (IsRegistry word) why.Number (λ one other h k.
-    let e : one.0 ≡ other.0 = sym h.number.value ∙ k.number.value in
+    let e : one.0 ≡ other.0 = one_number word one.0 other.0 h.number.written k.number.written in
     let made : ℕ → RegNo = λ n. record { 0 = n } in
     ap made e)
 
-one_policy : (word : List ℕ) → IsOne (policy_in word)
-one_policy word = one_value (λ (policy : PolicyNo). IsNumber word policy.0) why.Number (λ one other h k.
-    let e : one.0 ≡ other.0 = sym h.value ∙ k.value in
+one_policy : (word : Text) → IsOne (policy_in word)
+one_policy word = one_value (λ (policy : PolicyNo). IsSmallNumber word policy.0) why.Number (λ one other h k.
+    let e : one.0 ≡ other.0 = one_number word one.0 other.0 h.written k.written in
     let made : ℕ → PolicyNo = λ n. record { 0 = n } in
     ap made e)
 
-one_name : (word : List ℕ) → IsOne (name_in word)
+one_name : (word : Text) → IsOne (name_in word)
 one_name word = one_value (IsNameWord word) why.Name (λ one other h k. h.same ∙ sym k.same)
 
-one_tag : (word : List ℕ) → IsOne (tag_in word)
+one_tag : (word : Text) → IsOne (tag_in word)
 one_tag word = one_value (IsTagWord word) why.Tag (λ one other h k. h.same ∙ sym k.same)
 
-one_media : (word : List ℕ) → IsOne (media_in word)
+one_media : (word : Text) → IsOne (media_in word)
 one_media word = one_value (IsMedia word) why.Policy (λ one other h k. h.same ∙ sym k.same)
 
-same_layer : (word one other : List ℕ) → IsLayerWord word one → IsLayerWord word other → one ≡ other
-same_layer word one other h k =
-    let first = decode_of-encode_lower one h.whole.bytes in
-    let second = decode_of-encode_lower other k.whole.bytes in
-    let e = ap decode_of (h.spelled ∙ sym k.spelled) in
-    cc (first, second, e)
-
-one_layer : (word : List ℕ) → IsOne (layer_in word)
-one_layer word = one_value (IsLayerWord word) why.Hex (same_layer word)
+one_layer : (word : Text) → IsOne (layer_in word)
+one_layer word = one_value (IsLayerWord word) why.Hex (λ one other h k. spelled_once word one other h.spelled k.spelled)
 
 -- ---- lines
 
-one_image : (words : List (List ℕ)) → IsOne (image_of words)
+one_image : (words : List Text) → IsOne (image_of words)
 one_image (reg ∷ repo ∷ tag ∷ layers) =
     one_chain (registry_in reg) _ (one_registry reg) (λ a. one_chain (name_in repo) _ (one_name repo) (λ b. one_chain (tag_in tag) _ (one_tag tag) (λ d. one_chain (each layer_in layers) _ (one_each layer_in one_layer layers) (λ e. one_equal (Ok (Image a b d e))))))
 one_image _ = one_equal (Err why.Count)
 
-one_index : (words : List (List ℕ)) → IsOne (index_of words)
+one_index : (words : List Text) → IsOne (index_of words)
 one_index (reg ∷ repo ∷ tag ∷ children) =
     one_chain (registry_in reg) _ (one_registry reg) (λ a. one_chain (name_in repo) _ (one_name repo) (λ b. one_chain (tag_in tag) _ (one_tag tag) (λ d. one_chain (each tag_in children) _ (one_each tag_in one_tag children) (λ e. one_equal (Ok (Index a b d e))))))
 one_index _ = one_equal (Err why.Count)
 
-one_orphan : (words : List (List ℕ)) → IsOne (orphan_of words)
+one_orphan : (words : List Text) → IsOne (orphan_of words)
 one_orphan (reg ∷ repo ∷ layers) =
     one_chain (registry_in reg) _ (one_registry reg) (λ a. one_chain (name_in repo) _ (one_name repo) (λ b. one_chain (each layer_in layers) _ (one_each layer_in one_layer layers) (λ d. one_equal (Ok (Orphan a b d)))))
 one_orphan _ = one_equal (Err why.Count)
 
-one_manifest : (words : List (List ℕ)) → IsOne (manifest_of words)
+one_manifest : (words : List Text) → IsOne (manifest_of words)
 one_manifest (reg ∷ repo ∷ tag ∷ media ∷ first ∷ others) =
     one_chain (registry_in reg) _ (one_registry reg) (λ a. one_chain (name_in repo) _ (one_name repo) (λ b. one_chain (tag_in tag) _ (one_tag tag) (λ d. one_chain (media_in media) _ (one_media media) (λ e. one_equal _))))
 one_manifest _ = one_equal (Err why.Count)
 
-one_trigger : (words : List (List ℕ)) → IsOne (trigger_of words)
+one_trigger : (words : List Text) → IsOne (trigger_of words)
 one_trigger (policy ∷ []) = one_chain (policy_in policy) _ (one_policy policy) (λ a. one_equal (Ok (Event (event.Trigger a))))
 one_trigger _ = one_equal (Err why.Count)
 
-one_finish : (words : List (List ℕ)) → IsOne (finish_of words)
+one_finish : (words : List Text) → IsOne (finish_of words)
 one_finish [] = one_equal (Ok (Event event.Finish))
 one_finish _ = one_equal (Err why.Count)
 
-one_tags : (words : List (List ℕ)) → IsOne (tags_of words)
+one_tags : (words : List Text) → IsOne (tags_of words)
 one_tags (reg ∷ []) = one_chain (registry_in reg) _ (one_registry reg) (λ a. one_equal (Ok (Event (event.Tags a))))
 one_tags _ = one_equal (Err why.Count)
 
-one_arguments : (kind : Kind) (words : List (List ℕ)) → IsOne (arguments_of kind words)
+one_arguments : (kind : Kind) (words : List Text) → IsOne (arguments_of kind words)
 one_arguments kinds.Image words = one_image words
 one_arguments kinds.Index words = one_index words
 one_arguments kinds.Orphan words = one_orphan words
@@ -131,47 +127,48 @@ one_arguments kinds.Manifest words = one_manifest words
 one_arguments kinds.Trigger words = one_trigger words
 one_arguments kinds.Finish words = one_finish words
 one_arguments kinds.Tags words = one_tags words
+one_arguments kinds.Later words = one_equal (Err why.NotYet)
 
 one_placed : (misplaced : Bool) (meaning : Meaning Line) → IsOne meaning → IsOne (unless_misplaced misplaced meaning)
 one_placed true meaning one = one_equal (Err why.Order)
 one_placed false meaning one = one
 
-one_meaning : (after : Bool) (words : List (List ℕ)) → IsOne (meaning_of after words)
-one_meaning after [] = one_equal (Err why.Word)
-one_meaning after (first ∷ others) = one_chain (kind_in first) _ (one_equal (kind_of first)) (λ kind. one_placed (after && is_setup kind) (arguments_of kind others) (one_arguments kind others))
+one_meaning : (progress : Progress) (words : List Text) → IsOne (meaning_of progress words)
+one_meaning progress [] = one_equal (Err why.Word)
+one_meaning progress (first ∷ others) = one_chain (kind_in first) _ (one_equal (kind_of first)) (λ kind. one_placed (is_misplaced progress kind) (arguments_of kind others) (one_arguments kind others))
 
 one_where : (read : Bool) (meaning : Meaning (Option Line)) → IsOne meaning → IsOne (where_read read meaning)
 one_where true meaning one = one
 one_where false meaning one = one_equal (Ok None)
 
-one_line_meaning : (after : Bool) (line : List ℕ) → IsOne (line_meaning after line)
-one_line_meaning after line = one_where (is_read line) _ (one_chain (meaning_of after (words_of line)) _ (one_meaning after (words_of line)) (λ meant. one_equal (Ok (Some meant))))
+one_line_meaning : (progress : Progress) (line : Text) → IsOne (line_meaning progress line)
+one_line_meaning progress line = one_where (is_read line) _ (one_chain (meaning_of progress (words_of line)) _ (one_meaning progress (words_of line)) (λ meant. one_equal (Ok (Some meant))))
 
 -- ---- texts
 
-same_lines : (number : ℕ) (after : Bool) (lines : List (List ℕ)) (one other : Lines) → AreRead number after lines one → AreRead number after lines other → one ≡ other
-same_lines number after [] one other h k = h ∙ sym k
-same_lines number after (line ∷ lines) one other h k =
-    let e : h.0 ≡ k.0 = (one_line_meaning after line).same h.0 k.0 h.1 k.1 in
-    go (λ later a b. same_lines (number + 1) later lines a b) h.0 h.2 (subst (λ (m : Result (Option Line) Why). GoesOn (λ later. AreRead (number + 1) later lines) number after m other) (sym e) k.2)
+same_lines : (number : ℕ) (progress : Progress) (lines : List Text) (one other : Lines) → AreRead number progress lines one → AreRead number progress lines other → one ≡ other
+same_lines number progress [] one other h k = h ∙ sym k
+same_lines number progress (line ∷ lines) one other h k =
+    let e : h.0 ≡ k.0 = (one_line_meaning progress line).same h.0 k.0 h.1 k.1 in
+    go (λ later a b. same_lines (number + 1) later lines a b) h.0 h.2 (subst (λ (m : Result (Option Line) Why). GoesOn (λ later. AreRead (number + 1) later lines) number progress m other) (sym e) k.2)
   where
-    go : ((later : Bool) (a b : Lines) → AreRead (number + 1) later lines a → AreRead (number + 1) later lines b → a ≡ b) → (m : Result (Option Line) Why)
-        → GoesOn (λ later. AreRead (number + 1) later lines) number after m one → GoesOn (λ later. AreRead (number + 1) later lines) number after m other → one ≡ other
-    go ih (Ok None) p q = ih after one other p q
-    go ih (Ok (Some l)) p q = p.2 ∙ ap (with_line number l) (ih (after || _) p.0 q.0 p.1 q.1) ∙ sym q.2
+    go : ((later : Progress) (a b : Lines) → AreRead (number + 1) later lines a → AreRead (number + 1) later lines b → a ≡ b) → (m : Result (Option Line) Why)
+        → GoesOn (λ later. AreRead (number + 1) later lines) number progress m one → GoesOn (λ later. AreRead (number + 1) later lines) number progress m other → one ≡ other
+    go ih (Ok None) p q = ih progress one other p q
+    go ih (Ok (Some l)) p q = p.2 ∙ ap (with_line number l) (ih (progress_after progress l) p.0 q.0 p.1 q.1) ∙ sym q.2
     go ih (Err why) p q = p ∙ sym q
 
-some_lines : (number : ℕ) (after : Bool) (lines : List (List ℕ)) → ((found : Lines) → AreRead number after lines found → ⊥) → ⊥
-some_lines number after [] none = none nothing refl
-some_lines number after (line ∷ lines) none = (one_line_meaning after line).some (λ meaning h. go (λ later. some_lines (number + 1) later lines) meaning h)
+some_lines : (number : ℕ) (progress : Progress) (lines : List Text) → ((found : Lines) → AreRead number progress lines found → ⊥) → ⊥
+some_lines number progress [] none = none nothing refl
+some_lines number progress (line ∷ lines) none = (one_line_meaning progress line).some (λ meaning h. go (λ later. some_lines (number + 1) later lines) meaning h)
   where
-    go : ((later : Bool) → ((found : Lines) → AreRead (number + 1) later lines found → ⊥) → ⊥) → (meaning : Result (Option Line) Why) → line_meaning after line meaning → ⊥
-    go ih (Ok None) h = ih after (λ found k. none found (Ok None, h, k))
+    go : ((later : Progress) → ((found : Lines) → AreRead (number + 1) later lines found → ⊥) → ⊥) → (meaning : Result (Option Line) Why) → line_meaning progress line meaning → ⊥
+    go ih (Ok None) h = ih progress (λ found k. none found (Ok None, h, k))
     go ih (Ok (Some l)) h = ih _ (λ found k. none (with_line number l found) (Ok (Some l), h, (found, k, refl)))
     go ih (Err why) h = none (stopped number why) (Err why, h, refl)
 
-pub same_reading : (text : List ℕ) (one other : Lines) → IsReading text one → IsReading text other → one ≡ other
-same_reading text one other h k = same_lines 1 false (lines_of text) one other h k
+pub same_reading : (text : Text) (one other : Lines) → IsReading text one → IsReading text other → one ≡ other
+same_reading text one other h k = same_lines 1 at_start (lines_of text) one other h k
 
-pub some_reading : (text : List ℕ) → ((lines : Lines) → IsReading text lines → ⊥) → ⊥
-some_reading text none = some_lines 1 false (lines_of text) none
+pub some_reading : (text : Text) → ((lines : Lines) → IsReading text lines → ⊥) → ⊥
+some_reading text none = some_lines 1 at_start (lines_of text) none

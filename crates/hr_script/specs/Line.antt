@@ -1,19 +1,22 @@
 -- What a line of a script means, by its words. (Our own.)
-use Rattle.std.specs.Prelude.{◌&&◌, ℕ, Bool, true, false, List, [], ◌∷◌, Option, Some, None}
+use Rattle.std.specs.Prelude.{Bool, true, false, List, [], ◌∷◌, Option, Some, None}
 use Rattle.std.specs.List.{join_with_byte}
+use Rattle.hr_base.specs.Bytes.{Text}
 use Rattle.hr_event.specs.declared.event.Event.TheVariants as event
 use Rattle.hr_script.specs.declared.kind.Kind.{Kind}
 use Rattle.hr_script.specs.declared.kind.Kind.TheVariants as kinds
 use Rattle.hr_script.specs.declared.line.Line.{Line}
 use Rattle.hr_script.specs.declared.line.Line.TheVariants.{Image, Index, Orphan, Manifest, Event}
 use Rattle.hr_script.specs.declared.refusal.Why.TheVariants as why
-use Rattle.hr_script.specs.Kind.{kind_in, is_setup}
+use Rattle.hr_script.specs.declared.progress.Progress.{Progress}
+use Rattle.hr_script.specs.Kind.{kind_in}
 use Rattle.hr_script.specs.Meaning.{Meaning, gives, refuses, each, ◌>>=◌}
+use Rattle.hr_script.specs.Progress.{is_misplaced}
 use Rattle.hr_script.specs.Text.{is_read, words_of}
 use Rattle.hr_script.specs.Word.{registry_in, policy_in, name_in, tag_in, layer_in, media_in}
 
 -- what the words behind `image` mean
-abbrev pub image_of : List (List ℕ) → Meaning Line
+abbrev pub image_of : List Text → Meaning Line
 image_of (reg ∷ repo ∷ tag ∷ layers) = do
   reg ← registry_in reg
   repo ← name_in repo
@@ -23,7 +26,7 @@ image_of (reg ∷ repo ∷ tag ∷ layers) = do
 image_of _ = refuses why.Count
 
 -- what the words behind `index` mean
-abbrev pub index_of : List (List ℕ) → Meaning Line
+abbrev pub index_of : List Text → Meaning Line
 index_of (reg ∷ repo ∷ tag ∷ children) = do
   reg ← registry_in reg
   repo ← name_in repo
@@ -33,7 +36,7 @@ index_of (reg ∷ repo ∷ tag ∷ children) = do
 index_of _ = refuses why.Count
 
 -- what the words behind `orphan` mean
-abbrev pub orphan_of : List (List ℕ) → Meaning Line
+abbrev pub orphan_of : List Text → Meaning Line
 orphan_of (reg ∷ repo ∷ layers) = do
   reg ← registry_in reg
   repo ← name_in repo
@@ -42,7 +45,7 @@ orphan_of (reg ∷ repo ∷ layers) = do
 orphan_of _ = refuses why.Count
 
 -- what the words behind `manifest` mean: those behind the media type are one text with its spaces
-abbrev pub manifest_of : List (List ℕ) → Meaning Line
+abbrev pub manifest_of : List Text → Meaning Line
 manifest_of (reg ∷ repo ∷ tag ∷ media ∷ first ∷ others) = do
   reg ← registry_in reg
   repo ← name_in repo
@@ -52,26 +55,26 @@ manifest_of (reg ∷ repo ∷ tag ∷ media ∷ first ∷ others) = do
 manifest_of _ = refuses why.Count
 
 -- what the words behind `trigger` mean
-abbrev pub trigger_of : List (List ℕ) → Meaning Line
+abbrev pub trigger_of : List Text → Meaning Line
 trigger_of (policy ∷ []) = do
   policy ← policy_in policy
   gives (Event (event.Trigger policy))
 trigger_of _ = refuses why.Count
 
 -- what the words behind `finish` mean, of which there are none
-abbrev pub finish_of : List (List ℕ) → Meaning Line
+abbrev pub finish_of : List Text → Meaning Line
 finish_of [] = gives (Event event.Finish)
 finish_of _ = refuses why.Count
 
 -- what the words behind `tags` mean
-abbrev pub tags_of : List (List ℕ) → Meaning Line
+abbrev pub tags_of : List Text → Meaning Line
 tags_of (reg ∷ []) = do
   reg ← registry_in reg
   gives (Event (event.Tags reg))
 tags_of _ = refuses why.Count
 
 -- what the words behind the first one mean in a line of this kind
-abbrev pub arguments_of : Kind → List (List ℕ) → Meaning Line
+abbrev pub arguments_of : Kind → List Text → Meaning Line
 arguments_of kinds.Image words = image_of words
 arguments_of kinds.Index words = index_of words
 arguments_of kinds.Orphan words = orphan_of words
@@ -79,31 +82,27 @@ arguments_of kinds.Manifest words = manifest_of words
 arguments_of kinds.Trigger words = trigger_of words
 arguments_of kinds.Finish words = finish_of words
 arguments_of kinds.Tags words = tags_of words
+arguments_of kinds.Later words = refuses why.NotYet
 
--- a meaning but where the line is out of order
+-- a meaning where the line may stand where it stands, and why not where it may not
 abbrev pub unless_misplaced : Bool → Meaning Line → Meaning Line
 unless_misplaced true meaning = refuses why.Order
 unless_misplaced false meaning = meaning
 
--- what the words of a line mean, where an event came before it or none did
-abbrev pub meaning_of : Bool → List (List ℕ) → Meaning Line
-meaning_of after [] = refuses why.Word
-meaning_of after (first ∷ others) = do
+-- what the words of a line mean behind the lines so far
+abbrev pub meaning_of : Progress → List Text → Meaning Line
+meaning_of progress [] = refuses why.Word
+meaning_of progress (first ∷ others) = do
   kind ← kind_in first
-  unless_misplaced (after && is_setup kind) (arguments_of kind others)
+  unless_misplaced (is_misplaced progress kind) (arguments_of kind others)
 
 -- a meaning where the line is read, and nothing where it is passed over
 abbrev pub where_read : Bool → Meaning (Option Line) → Meaning (Option Line)
 where_read true meaning = meaning
 where_read false meaning = gives None
 
--- what a line means, which is nothing where it is passed over
-abbrev pub line_meaning : Bool → List ℕ → Meaning (Option Line)
-line_meaning after line = where_read (is_read line) (do
-  meant ← meaning_of after (words_of line)
+-- what a line means behind the lines so far, which is nothing where it is passed over
+abbrev pub line_meaning : Progress → Text → Meaning (Option Line)
+line_meaning progress line = where_read (is_read line) (do
+  meant ← meaning_of progress (words_of line)
   gives (Some meant))
-
--- whether a line is an event
-abbrev pub is_event : Line → Bool
-is_event (Event event) = true
-is_event _ = false

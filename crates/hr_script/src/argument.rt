@@ -7,6 +7,7 @@ ghost use Rattle.hr_script.specs.Word.{layer_in, tag_in};
 
 use crate::kind::Kind;
 use crate::line::Line;
+use crate::progress::Progress;
 use crate::refusal::{Refused, Why};
 use crate::split::{end_words, split_word, take_word};
 use crate::word::{read_layer, read_media, read_name, read_policy, read_registry, read_tag};
@@ -15,13 +16,13 @@ use hr_event::Event;
 use hr_name::Tag;
 use std::alloc::Global;
 
-/// What a line that is not passed over means, where an event came before it or none did.
-pub(crate) fn read_line(alloc: Global, after: bool, line: &[u8]) -> Result<Line, Refused>
-    ensures { Answers (meaning_of after (words_of line.now)) result }
+/// What a line that is not passed over means behind the lines so far.
+pub(crate) fn read_line(alloc: Global, progress: Progress, line: &[u8]) -> Result<Line, Refused>
+    ensures { Answers (meaning_of progress (words_of line.now)) result }
 {
     let (first, words) = split_word(line);
     match Kind::of(first) {
-        Ok(kind) if after && kind.is_setup() => Err(Refused::Bad(Why::Order)),
+        Ok(kind) if progress.is_misplaced(kind) => Err(Refused::Bad(Why::Order)),
         Ok(kind) => read_arguments(alloc, kind, words),
         Err(why) => Err(Refused::Bad(why)),
     }
@@ -39,6 +40,7 @@ fn read_arguments(alloc: Global, kind: Kind, words: Option<&[u8]>) -> Result<Lin
         Kind::Trigger => read_trigger(words),
         Kind::Finish => read_finish(words),
         Kind::Tags => read_tags(words),
+        Kind::Later => Err(Refused::Bad(Why::NotYet)),
     }
 }
 

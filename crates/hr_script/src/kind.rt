@@ -1,6 +1,6 @@
 //! The first words of lines. (Our own.)
 ghost use Rattle.std.specs.Prelude.{◌≡◌};
-ghost use Rattle.hr_script.specs.Kind.{is_one_of, is_setup, kind_of, later_events, later_setup, unread};
+ghost use Rattle.hr_script.specs.Kind.{is_later, is_one_of, is_setup, kind_of, later_events, later_setup};
 
 use crate::refusal::Why;
 
@@ -14,6 +14,8 @@ pub(crate) enum Kind {
     Trigger,
     Finish,
     Tags,
+    /// Lines of the language that are not read yet.
+    Later,
 }
 
 impl Kind {
@@ -42,7 +44,10 @@ impl Kind {
         if word == b"tags".as_slice() {
             return Ok(Kind::Tags);
         }
-        Err(unread(word))
+        if is_later(word) {
+            return Ok(Kind::Later);
+        }
+        Err(Why::Word)
     }
 
     /// Whether such a line sets a registry up, and so stands before the first event.
@@ -56,15 +61,11 @@ impl Kind {
     }
 }
 
-// Why a word begins no line that is read.
-fn unread(word: &[u8]) -> Why
-    ensures { result ≡ unread word.now }
+// Whether a word of the language begins lines that are not read yet.
+fn is_later(word: &[u8]) -> bool
+    ensures { result ≡ is_later word.now }
 {
-    if is_later_setup(word) || is_later_event(word) {
-        Why::NotYet
-    } else {
-        Why::Word
-    }
+    is_later_setup(word) || is_later_event(word)
 }
 
 // Whether a word begins setup lines that are not read yet.

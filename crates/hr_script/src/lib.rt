@@ -5,6 +5,7 @@
 mod argument;
 mod kind;
 mod line;
+mod progress;
 mod reading;
 mod refusal;
 mod split;

@@ -1,6 +1,6 @@
 //! One line of a script. (Our own.)
 ghost use Rattle.std.specs.Prelude.{◌≡◌};
-ghost use Rattle.hr_script.specs.Line.{is_event};
+ghost use Rattle.hr_script.specs.Progress.{is_event};
 
 use hr_base::{Bytes, List, RegNo};
 use hr_event::Event;

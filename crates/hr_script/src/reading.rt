@@ -1,5 +1,6 @@
 //! The lines of a script, read up to the first bad one. (Our own.)
-ghost use Rattle.std.specs.Prelude.{◌≡◌, ◌≤◌, List, ℕ, IfOk, length};
+ghost use Rattle.std.specs.Prelude.{◌≡◌, ◌≤◌, IfOk, length};
+ghost use Rattle.hr_base.specs.Bytes.{Text};
 ghost use Rattle.hr_script.specs.Line.{line_meaning};
 ghost use Rattle.hr_script.specs.Meaning.{Answers};
 ghost use Rattle.hr_script.specs.Reading.{IsReading};
@@ -7,6 +8,7 @@ ghost use Rattle.hr_script.specs.declared.reading.Lines.{Lines};
 
 use crate::argument::read_line;
 use crate::line::Line;
+use crate::progress::Progress;
 use crate::refusal::{Fault, Refused};
 use crate::split::{is_passed_over, split_line};
 use hr_base::{List, Memory};
@@ -39,16 +41,16 @@ pub fn read_lines(alloc: Global, text: &[u8]) -> Result<Lines, Memory>
 {
     let mut lines = List::new(alloc);
     let mut number = 0u32;
-    let mut after = false;
+    let mut progress = Progress::start();
     let mut left = text;
     while !left.is_empty() {
         let (line, rest) = split_line(left);
         left = rest;
         number += 1;
-        match read_next(alloc, after, line) {
+        match read_next(alloc, progress, line) {
             Ok(None) => {}
             Ok(Some(line)) => {
-                after = after || line.is_event();
+                progress = progress.after(&line);
                 lines.push(Numbered { number, line })?;
             }
             Err(Refused::Bad(why)) => {
@@ -62,22 +64,22 @@ pub fn read_lines(alloc: Global, text: &[u8]) -> Result<Lines, Memory>
 }
 
 // What a line means, which is nothing where it is passed over.
-fn read_next(alloc: Global, after: bool, line: &[u8]) -> Result<Option<Line>, Refused>
-    ensures { Answers (line_meaning after line.now) result }
+fn read_next(alloc: Global, progress: Progress, line: &[u8]) -> Result<Option<Line>, Refused>
+    ensures { Answers (line_meaning progress line.now) result }
 {
     if is_passed_over(line) {
         return Ok(None);
     }
-    Ok(Some(read_line(alloc, after, line)?))
+    Ok(Some(read_line(alloc, progress, line)?))
 }
 
 /// A law: two readings of a text are equal.
 pub fn one_reading()
-    ensures { (text : List ℕ) (one other : Lines) → IsReading text one → IsReading text other
+    ensures { (text : Text) (one other : Lines) → IsReading text one → IsReading text other
         → one ≡ other }
 {}
 
 /// A law: no text is without a reading.
 pub fn some_reading()
-    ensures { (text : List ℕ) → ((lines : Lines) → IsReading text lines → ⊥) → ⊥ }
+    ensures { (text : Text) → ((lines : Lines) → IsReading text lines → ⊥) → ⊥ }
 {}

@@ -3,8 +3,8 @@ ghost use Rattle.std.specs.Prelude.{◌≡◌};
 
 use hr_base::Memory;
 
-/// Why a line is bad: the first of these that holds in it, where `NotYet` stands in the place of
-/// `Word`. The last five are looked for word by word, from the left.
+/// Why a line is bad: the first of these that holds in it. From `Number` on they are looked for word
+/// by word, from the left; `NotYet` of a first word is looked for with `Word`.
 #[derive(Clone, Copy, Debug, PartialEq, Eq)]
 pub enum Why {
     /// Its first word begins no line of the language.
@@ -23,7 +23,7 @@ pub enum Why {
     Hex,
     /// A media type has a byte that JSON escapes.
     Policy,
-    /// Its first word begins lines of the language that are not read yet.
+    /// It has a word of the language for what is not built yet. Today that is a first word alone.
     NotYet,
 }
 

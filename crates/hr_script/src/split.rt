@@ -1,16 +1,10 @@
 //! Texts that are cut at a byte: lines at line feeds, words at spaces. (Our own.)
-ghost use Rattle.std.specs.Prelude.{◌≡◌, ◌≤◌, ◌==◌, ◌<◌, ◌∷◌, [], IfOk, IfErr, IsSome, OnErr, OnOk, length, not, position};
+ghost use Rattle.std.specs.Prelude.{◌≡◌, ◌≤◌, ◌<◌, ◌∷◌, [], IfOk, IfErr, IsSome, OnErr, OnOk, length, not};
 ghost use Rattle.std.specs.Option.{option_copied};
 ghost use Rattle.hr_script.specs.Text.{is_read, length_left, lines_of, words_left, words_of};
 
 use crate::refusal::{Refused, Why};
-
-// Where the first such byte stands.
-fn find_byte(text: &[u8], c: u8) -> Option<usize>
-    ensures { result ≡ position (λ b. b == c) text.now }
-{
-    text.iter().position(|b| *b == c)
-}
+use hr_text::cut;
 
 /// The first line of a text that is not empty, and the text behind it.
 pub(crate) fn split_line(text: &[u8]) -> (&[u8], &[u8])
@@ -18,9 +12,10 @@ pub(crate) fn split_line(text: &[u8]) -> (&[u8], &[u8])
     ensures lines { lines_of text.now ≡ result.0.now ∷ lines_of result.1.now }
     ensures shorter { length result.1.now < length text.now }
 {
-    match find_byte(text, b'\n') {
-        Some(at) => (&text[..at], &text[at + 1..]),
-        None => (text, &[]),
+    let (line, rest) = cut(text, b'\n');
+    match rest {
+        Some(rest) => (line, rest),
+        None => (line, &[]),
     }
 }
 
@@ -29,10 +24,7 @@ pub(crate) fn split_word(text: &[u8]) -> (&[u8], Option<&[u8]>)
     ensures words { words_of text.now ≡ result.0.now ∷ words_left (option_copied result.1) }
     ensures shorter { length_left (option_copied result.1) ≤ length text.now }
 {
-    match find_byte(text, b' ') {
-        Some(at) => (&text[..at], Some(&text[at + 1..])),
-        None => (text, None),
-    }
+    cut(text, b' ')
 }
 
 /// The next word of what is left of a line, and what is left behind it.

@@ -1,48 +1,24 @@
 //! What one word of a line stands for, by its kind. (Our own, but for names and tags: OCI
 //! Distribution 1.1, "Pulling manifests".)
-ghost use Rattle.std.specs.Prelude.{◌≡◌, ◌↔◌, IsTrue, IfSome, IfNone, ℕ};
-ghost use Rattle.std.specs.List.{AllPass, list_all, list_any};
-ghost use Rattle.std.specs.Char.{is_ascii_digit};
+ghost use Rattle.std.specs.Prelude.{◌≡◌, IfSome, IfNone, ℕ};
 ghost use Rattle.hr_script.specs.Meaning.{Answers};
-ghost use Rattle.hr_script.specs.Word.{IsHexadecimal, IsNumber, is_decimal, is_escaped, is_lower_hex, layer_in, media_in, name_in, policy_in, registry_in, tag_in};
+ghost use Rattle.hr_script.specs.Word.{IsSmallNumber, layer_in, media_in, name_in, policy_in, registry_in, tag_in};
 
 use crate::refusal::{Refused, Why};
-use hex::decode;
-use hr_base::{Bytes, PolicyNo, RegNo};
+use hr_base::{Bytes, Memory, PolicyNo, RegNo};
 use hr_name::{Name, NameRefused, Tag};
+use hr_text::{is_unescaped, read_hex, read_number};
 use std::alloc::Global;
-
-// Whether a word is one decimal digit or more, without a zero in front of others.
-fn is_decimal(word: &[u8]) -> bool
-    ensures { result ≡ is_decimal word.now }
-{
-    match word {
-        [] => false,
-        [digit] => digit.is_ascii_digit(),
-        [first, ..] => *first != b'0' && are_digits(word),
-    }
-}
-
-fn are_digits(text: &[u8]) -> bool
-    ensures { result ≡ list_all is_ascii_digit text.now }
-{
-    text.iter().all(|b| b.is_ascii_digit())
-}
 
 // The number below 2^32 that a word writes.
 fn number_in(word: &[u8]) -> Option<u32>
-    ensures some { IfSome result (IsNumber word.now) }
-    ensures none { IfNone result ((number : ℕ) → IsNumber word.now number → ⊥) }
+    ensures some { IfSome result (IsSmallNumber word.now) }
+    ensures none { IfNone result ((number : ℕ) → IsSmallNumber word.now number → ⊥) }
 {
-    if !is_decimal(word) {
-        return None;
+    match read_number(word) {
+        Some(number) if number <= u32::MAX as u64 => Some(number as u32),
+        _ => None,
     }
-    let mut value = 0u32;
-    for digit in word {
-        let more = (*digit - b'0') as u32;
-        value = value.checked_mul(10)?.checked_add(more)?;
-    }
-    Some(value)
 }
 
 /// The number of a registry, 1 to 8.
@@ -93,49 +69,22 @@ pub(crate) fn read_tag(alloc: Global, word: &[u8]) -> Result<Tag, Refused>
 pub(crate) fn read_layer(alloc: Global, word: &[u8]) -> Result<Bytes, Refused>
     ensures { Answers (layer_in word.now) result }
 {
-    if !is_hexadecimal(word) {
+    if word.is_empty() {
         return Err(Refused::Bad(Why::Hex));
     }
-    match decode(alloc, word) {
-        Ok(bytes) => Ok(Bytes::from(bytes)),
-        // Pairs of digits are decoded where there is room.
-        Err(_) => Err(Refused::Memory),
+    match read_hex(alloc, word) {
+        Ok(Some(bytes)) => Ok(bytes),
+        Ok(None) => Err(Refused::Bad(Why::Hex)),
+        Err(Memory) => Err(Refused::Memory),
     }
-}
-
-// Whether a word is pairs of lower-case hexadecimal digits, at least one.
-fn is_hexadecimal(word: &[u8]) -> bool
-    ensures { IsTrue result ↔ IsHexadecimal word.now }
-{
-    !word.is_empty() && word.len() % 2 == 0 && are_lower_digits(word)
-}
-
-fn are_lower_digits(text: &[u8]) -> bool
-    ensures { IsTrue result ↔ AllPass is_lower_hex text.now }
-{
-    text.iter().all(|b| matches!(b, b'0'..=b'9' | b'a'..=b'f'))
 }
 
 /// A media type, without a byte that JSON escapes.
 pub(crate) fn read_media(alloc: Global, word: &[u8]) -> Result<Bytes, Refused>
     ensures { Answers (media_in word.now) result }
 {
-    if has_escaped(word) {
+    if !is_unescaped(word) {
         return Err(Refused::Bad(Why::Policy));
     }
     Ok(Bytes::of(alloc, word)?)
-}
-
-// Whether some byte is one that JSON escapes.
-fn has_escaped(text: &[u8]) -> bool
-    ensures { result ≡ list_any is_escaped text.now }
-{
-    text.iter().any(|b| is_escaped(*b))
-}
-
-// Whether JSON escapes a byte.
-fn is_escaped(byte: u8) -> bool
-    ensures { result ≡ is_escaped byte }
-{
-    byte < 32 || byte == b'"' || byte == b'\\'
 }

@@ -5,7 +5,7 @@ use Rattle.hr_script.proofs.reading.read_lines.Given as goal
 
 abbrev pub invariant-loop-left : goal.invariant-loop-left
 invariant-loop-left l = record {
-  were : WereRead (lines_of l.text) l.number l.after (lines_of l.left) l.lines;
+  were : WereRead (lines_of l.text) l.number l.progress (lines_of l.left) l.lines;
   few : l.number + length l.left ≤ length l.text;
 }
 
