@@ -11,11 +11,12 @@ The form of a case stands at the head of crates/hr_cases/src/main.rt, and the fo
     entry JOB.REV WORD ..               `show journal`, and what a task does
     cause WORD ..                       `show causes`
     tag REG REPO TAG DIGEST             `show tags`, and of registry 2 behind a task
+    listed REPO TAG LABEL ..            what registry 2 lists behind a task
     registry N                          `show content`, with the lines behind it
     repository REPO
     blob DIGEST BYTES
     manifest DIGEST MEDIA BYTES
-    named TAG DIGEST
+    named TAG DIGEST LABEL ..
 
 To add a case, add it below to the list that fits, and run this script.
 
@@ -90,6 +91,8 @@ class Case:
             task, journal = model.Task(source, dest, name, to, [tag], how == "replace"), []
             task.run(1, journal)
             said += ["entry " + entry for entry in journal] + tags(2, dest)
+            for held in sorted(dest.repositories):
+                said += ["listed %s %s" % (held, tag) for tag in sorted(dest.repositories[held].tags)]
         return said
 
 

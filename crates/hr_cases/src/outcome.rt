@@ -58,7 +58,7 @@ fn write_shown(alloc: Global, said: &mut String, show: Show, kept: &Ending) -> R
     match show {
         Show::Journal => write_journal(said, kept.journal.view()),
         Show::Causes => write_causes(said, kept.journal.view()),
-        Show::Tags => write_tags(alloc, said, kept.regs.view()),
+        Show::Tags => write_tags(said, kept.regs.view()),
         Show::Content => write_contents(alloc, said, kept.regs.view()),
     }
 }

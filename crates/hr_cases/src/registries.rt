@@ -1,31 +1,61 @@
 //! What registries hold, a line for each tag, manifest and blob.
 
 use crate::digits::{Named, Plain};
-use hr_base::Memory;
-use hr_memreg::{BlobAt, ManifestAt, MemRegistry, RepoContent, TagAt};
+use hr_adapter::{RegFault, Registry, Tagged};
+use hr_base::{Bytes, Memory};
+use hr_memreg::{BlobAt, ManifestAt, RepoContent, TagAt};
+use hr_name::Name;
 use hr_top::RegHeld;
 use std::alloc::Global;
 
 /// Writes the tags of each registry that lead to a manifest.
-pub fn write_tags(alloc: Global, said: &mut String, regs: &[RegHeld]) -> Result<(), Memory> {
+pub fn write_tags(said: &mut String, regs: &[RegHeld]) -> Result<(), Memory> {
     for held in regs {
-        write_shown(alloc, said, held.reg.0, &held.held)?;
+        write_shown(said, held.reg.0, &held.held)?;
     }
     Ok(())
 }
 
 /// Writes the tags of a registry that lead to a manifest.
-pub fn write_shown(
-    alloc: Global,
-    said: &mut String,
-    reg: u8,
-    registry: &MemRegistry,
-) -> Result<(), Memory> {
-    let shown = registry.list_shown(alloc)?;
+pub fn write_shown<R: Registry>(said: &mut String, reg: u8, registry: &R) -> Result<(), Memory> {
+    let shown = registry.shown()?;
     for tag in shown.view() {
         let (repo, name) = (Plain(tag.repo.view()), Plain(tag.tag.view()));
         writeln!(said, "tag {reg} {repo} {name} {}", Named(tag.digest))?;
     }
+    Ok(())
+}
+
+/// Writes the tags of each repository as a registry lists them.
+pub fn write_listed<R: Registry>(said: &mut String, registry: &mut R) -> Result<(), RegFault> {
+    let repos = registry.repos()?;
+    for repo in repos.view() {
+        let tags = registry.tags(repo)?;
+        write_tagged(said, repo, tags.view())?;
+    }
+    Ok(())
+}
+
+// Writes tags of a repository with their labels.
+fn write_tagged(said: &mut String, repo: &Name, tags: &[Tagged]) -> Result<(), Memory> {
+    for tagged in tags {
+        write!(
+            said,
+            "listed {} {}",
+            Plain(repo.view()),
+            Plain(tagged.tag.view())
+        )?;
+        write_labels(said, tagged.labels.view())?;
+    }
+    Ok(())
+}
+
+// Writes labels and the end of their line.
+fn write_labels(said: &mut String, labels: &[Bytes]) -> Result<(), Memory> {
+    for label in labels {
+        write!(said, " {}", Plain(label.view()))?;
+    }
+    said.push_str("\n")?;
     Ok(())
 }
 
@@ -77,10 +107,7 @@ fn write_named(said: &mut String, tags: &[TagAt]) -> Result<(), Memory> {
             Plain(tag.tag.view()),
             Named(tag.digest)
         )?;
-        for label in tag.labels.view() {
-            write!(said, " {}", Plain(label.view()))?;
-        }
-        said.push_str("\n")?;
+        write_labels(said, tag.labels.view())?;
     }
     Ok(())
 }

@@ -1,7 +1,7 @@
 //! Tasks that no script plans: to another repository, or to leave what a tag names.
 
 use crate::outcome::write_journal;
-use crate::registries::write_shown;
+use crate::registries::{write_listed, write_shown};
 use hr_base::{JobNo, List, Memory, PolicyNo, RegNo};
 use hr_copy::{Log, copy_task};
 use hr_event::{TaskSpec, Turn};
@@ -36,8 +36,8 @@ pub fn task_of(alloc: Global, rest: &str) -> Option<TaskSpec> {
     })
 }
 
-/// Runs each task between registries with what is kept in 1 and 2, and writes the journal and the
-/// tags of registry 2 then.
+/// Runs each task between registries with what is kept in 1 and 2, and writes the journal, the tags
+/// of registry 2 then and what it lists.
 pub fn write_tasks(
     alloc: Global,
     said: &mut String,
@@ -62,7 +62,11 @@ fn write_task(
     let mut log = Log::new(alloc);
     let _ = copy_task(alloc, &mut source, &mut dest, &mut log, &TURN, spec)?;
     write_journal(said, log.view())?;
-    write_shown(alloc, said, 2, &dest)
+    write_shown(said, 2, &dest)?;
+    match write_listed(said, &mut dest) {
+        Ok(()) => Ok(()),
+        Err(_) => Err(Memory),
+    }
 }
 
 // A registry with what the one of this number holds, or an empty one where there is none.

@@ -10,8 +10,6 @@ mod line;
 mod planning;
 mod replaying;
 mod session;
-#[cfg(test)]
-mod tests;
 
 pub use law::the_promise_holds;
 pub use replaying::{Refused, Replayed, replay};
