@@ -1,14 +1,14 @@
 -- The strings of canonical texts need no escapes, and are UTF-8.
-use Rattle.std.proofs.Common.{◌≡◌, ◌/◌, ◌%◌, ◌<◌, ◌^◌, ℕ, zero, suc, Bool, true, ◌&&◌, List, [], ◌∷◌, ◌++◌, length, map, codes, decimal, slice_index, refl, ap, ap₂, inl, inr, arith, nat_lt, IsUtf8}
-use Rattle.std.specs.Prelude.{◌==◌}
+use Rattle.std.proofs.Common.{◌≡◌, ◌/◌, ◌%◌, ◌<◌, ◌≤◌, ◌^◌, ℕ, zero, suc, Bool, true, false, ◌&&◌, List, [], ◌∷◌, ◌++◌, length, map, codes, decimal, slice_index, refl, ap, ap₂, inl, inr, arith, nat_lt, IsUtf8}
+use Rattle.std.specs.Prelude.{◌==◌, not}
 use Rattle.std.specs.List.{AllByRecursion}
-use Rattle.std.proofs.lemmas.Bool.{and_parts, cases_lt, or_parts, not-true, leb-true, eqb-false}
+use Rattle.std.proofs.lemmas.Bool.{and_parts, cases_lt, or_parts, not-true, eqb-false}
 use Rattle.std.proofs.lemmas.Fmt.{IsAscii-decimal}
 use Rattle.std.proofs.lemmas.List.Elements.{All-head, All-tail}
 use Rattle.std.proofs.lemmas.Str.{IsUtf8-append, IsUtf8-from_ascii, IsUtf8-nil}
 use Rattle.hr_digest.specs.Hex.{IsBytes, encode_lower, encode_with, lower_digits}
 use Rattle.hr_digest.specs.Sha256.{digest_bytes, sha256}
-use Rattle.std.proofs.lemmas.List.Sums.{AllPass-from_list_all}
+use Rattle.std.proofs.lemmas.Bool.Decides.{nat_tests}
 use Rattle.sha2.proofs.Facts256.{length-sha256}
 use Rattle.json.specs.Print.{escape, escape_byte}
 use Rattle.json.proofs.Printed.Strings.{escape_byte_plain}
@@ -19,25 +19,29 @@ use Rattle.hr_digest.specs.Digest.{digest_of, text_of_digest}
 use Rattle.hr_digest.specs.Reading.{IsWhole}
 use Rattle.hr_manifest.specs.declared.child.Child.{Child}
 use Rattle.hr_manifest.specs.Canonical.{config_of, layer_of, descriptor, descriptors, image_text, index_text}
-use Rattle.hr_manifest.specs.Writable.{IsPlain, IsWritable, is_unescaped}
+use Rattle.hr_manifest.specs.Writable.{IsWritable}
+use Rattle.hr_text.specs.Escaping.{IsUnescaped, is_escaped}
+use Rattle.hr_text.proofs.EscapeLaws.{unescaped_text}
 use Rattle.hr_manifest.proofs.TextLemmas.{IsPlainChild}
 
 -- ---- plain bytes stand for themselves
 
-plain_cons : (x : ℕ) (xs : List ℕ) → is_unescaped x ≡ true → escape xs ≡ xs → escape (x ∷ xs) ≡ x ∷ xs
-plain_cons x xs h rest =
-    let parts = and_parts _ _ h in
-    let tests = or_parts (x == 34) _ (not-true _ parts.1) in
-    ap₂ (λ (a b : List ℕ). a ++ b) (escape_byte_plain x (eqb-false x 34 tests.0) (eqb-false x 92 tests.1) (leb-true 32 x parts.0)) rest
+above_controls : (x : ℕ) → is_escaped x ≡ false → 32 ≤ x
+above_controls x h = grind (arith, nat_tests)
 
-pub escape_plain : (xs : List ℕ) → IsPlain xs → escape xs ≡ xs
+plain_cons : (x : ℕ) (xs : List ℕ) → is_escaped x ≡ false → escape xs ≡ xs → escape (x ∷ xs) ≡ x ∷ xs
+plain_cons x xs h rest =
+    let tests = or_parts (x == 34) _ (or_parts _ _ h).1 in
+    ap₂ (λ (a b : List ℕ). a ++ b) (escape_byte_plain x (eqb-false x 34 tests.0) (eqb-false x 92 tests.1) (above_controls x h)) rest
+
+pub escape_plain : (xs : List ℕ) → IsUnescaped xs → escape xs ≡ xs
 escape_plain [] h = refl
-escape_plain (x ∷ xs) h = plain_cons x xs (All-head (λ b. is_unescaped b ≡ true) x xs h) (escape_plain xs (All-tail (λ b. is_unescaped b ≡ true) x xs h))
+escape_plain (x ∷ xs) h = plain_cons x xs (All-head (λ b. is_escaped b ≡ false) x xs h) (escape_plain xs (All-tail (λ b. is_escaped b ≡ false) x xs h))
 
 -- ---- hexadecimal digits
 
 abbrev is_plain_digit : ℕ → Bool
-is_plain_digit d = is_unescaped (slice_index lower_digits d) && nat_lt (slice_index lower_digits d) 128
+is_plain_digit d = not (is_escaped (slice_index lower_digits d)) && nat_lt (slice_index lower_digits d) 128
 
 abbrev all_plain_digits : ℕ → Bool
 all_plain_digits zero = true
@@ -54,8 +58,10 @@ all_plain_digits-at (suc n) k h lt =
           rw e parts.0
     ]
 
-plain_digit : (d : ℕ) → d < 16 → (is_unescaped (slice_index lower_digits d) ≡ true) × (nat_lt (slice_index lower_digits d) 128 ≡ true)
-plain_digit d small = and_parts _ _ (all_plain_digits-at 16 d refl small)
+plain_digit : (d : ℕ) → d < 16 → (is_escaped (slice_index lower_digits d) ≡ false) × (nat_lt (slice_index lower_digits d) 128 ≡ true)
+plain_digit d small =
+    let parts = and_parts _ _ (all_plain_digits-at 16 d refl small) in
+    (not-true _ parts.0, parts.1)
 
 abbrev AreBytes : List ℕ → Type 0
 AreBytes = AllByRecursion (λ b. b < 256)
@@ -144,14 +150,14 @@ pub writable_config : (content : List ℕ) → length content < 2 ^ 64 → IsWri
 writable_config content h = record {
   fit = record { whole = whole_digest content; small = h };
   text = IsUtf8-are_ascii _ refl;
-  plain = AllPass-from_list_all is_unescaped (config_of content).media refl;
+  plain = unescaped_text (config_of content).media refl;
 }
 
 writable_layer : (content : List ℕ) → length content < 2 ^ 64 → IsWritable (layer_of content)
 writable_layer content h = record {
   fit = record { whole = whole_digest content; small = h };
   text = IsUtf8-are_ascii _ refl;
-  plain = AllPass-from_list_all is_unescaped (layer_of content).media refl;
+  plain = unescaped_text (layer_of content).media refl;
 }
 
 pub writable_layers : (layers : List (List ℕ)) → AllByRecursion (λ layer. length layer < 2 ^ 64) layers → AllByRecursion IsWritable (map layer_of layers)

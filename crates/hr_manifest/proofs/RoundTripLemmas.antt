@@ -24,7 +24,8 @@ use Rattle.hr_manifest.specs.Descriptor.{child_of, digest_in, kind_of}
 use Rattle.hr_manifest.specs.Document.{descriptor_value, descriptor_values, image_value, index_value}
 use Rattle.hr_manifest.specs.Reading.{Reads, listed}
 use Rattle.hr_manifest.specs.Step.{each}
-use Rattle.hr_manifest.specs.Writable.{IsFit, IsListed, IsPlain, IsWritable}
+use Rattle.hr_manifest.specs.Writable.{IsFit, IsListed, IsWritable}
+use Rattle.hr_text.specs.Escaping.{IsUnescaped}
 use Rattle.hr_manifest.proofs.BackLemmas.{image_back, index_back}
 use Rattle.hr_manifest.proofs.PlainLemmas.{image_utf8, index_utf8, whole_digest, writable_config, writable_layers}
 
@@ -117,13 +118,13 @@ image_children_back config layers h hs few short =
     (image_back config layers small each_small) short (config_at config h) (layers_at layers hs) (omega (arith, few, count layers))
 
 -- children that are fit and can be listed, under media types without escapes, can be written
-pub writable_each : (children : List Child) → All IsFit children → All IsListed children → All (λ child. IsPlain child.media) children
+pub writable_each : (children : List Child) → All IsFit children → All IsListed children → All (λ child. IsUnescaped child.media) children
     → AllByRecursion IsWritable children
 writable_each [] f l p = tt
 writable_each (child ∷ children) f l p =
     let listed = All-head IsListed child children l in (
-      record { fit = All-head IsFit child children f; text = listed.text; plain = All-head (λ c. IsPlain c.media) child children p },
-      writable_each children (All-tail IsFit child children f) (All-tail IsListed child children l) (All-tail (λ c. IsPlain c.media) child children p),
+      record { fit = All-head IsFit child children f; text = listed.text; plain = All-head (λ c. IsUnescaped c.media) child children p },
+      writable_each children (All-tail IsFit child children f) (All-tail IsListed child children l) (All-tail (λ c. IsUnescaped c.media) child children p),
     )
 
 pub listed_each : (children : List Child) → All IsListed children → AllByRecursion IsListed children

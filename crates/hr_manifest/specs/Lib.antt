@@ -5,3 +5,4 @@ pub mod Manifest
 pub mod Reading
 pub mod Step
 pub mod Writable
+pub use Rattle.hr_text.specs.Escaping

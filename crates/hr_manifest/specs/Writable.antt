@@ -1,18 +1,11 @@
 -- Which children can be written so that they read back (RFC 8259, section 7, "Strings").
-use Rattle.std.specs.Prelude.{◌≡◌, ◌^◌, ◌<◌, ◌==◌, ◌&&◌, ◌||◌, not, nat_le, ℕ, Bool, List}
-use Rattle.std.specs.List.{AllPass}
+use Rattle.std.specs.Prelude.{◌≡◌, ◌^◌, ◌<◌}
 use Rattle.std.specs.Str.{IsUtf8}
 use Rattle.hr_digest.specs.Reading.{IsWhole}
+use Rattle.hr_text.specs.Escaping.{IsUnescaped}
 use Rattle.hr_manifest.specs.declared.child.Child.{Child}
+use Rattle.hr_text.specs.Escaping.{IsUnescaped}
 use Rattle.hr_manifest.specs.declared.child.ChildKind.TheVariants.{Manifest}
-
--- a byte that JSON does not escape in a string: all but 0 to 31, `"` and `\`
-abbrev pub is_unescaped : ℕ → Bool
-is_unescaped b = nat_le 32 b && not (b == 34 || b == 92)
-
--- the bytes stand in a string of JSON as they are
-abbrev pub IsPlain : List ℕ → Type 0
-IsPlain bytes = AllPass is_unescaped bytes
 
 -- what the type of a child gives: a digest as long as its algorithm gives, and a size of 64 bits
 pub record IsFit (child : Child) : Type 0 where
@@ -23,7 +16,7 @@ pub record IsFit (child : Child) : Type 0 where
 pub record IsWritable (child : Child) : Type 0 where
   pub fit : IsFit child
   pub text : IsUtf8 child.media
-  pub plain : IsPlain child.media
+  pub plain : IsUnescaped child.media
 
 -- a child that an index lists: a manifest of less than 2^63 bytes, under a media type in UTF-8
 pub record IsListed (child : Child) : Type 0 where

@@ -8,7 +8,6 @@ mod field;
 mod form;
 mod law;
 mod manifest;
-mod plain;
 mod reading;
 mod refusal;
 mod round_trip;
@@ -19,12 +18,12 @@ mod writing;
 mod writing_tests;
 
 pub use child::{Child, ChildKind};
+pub use hr_text::is_unescaped;
 pub use law::{
     bytes_are_read_or_refused, children_depend_on_the_bytes_alone,
     manifests_are_within_their_limits,
 };
 pub use manifest::{CHILD_LIMIT, MANIFEST_LIMIT, Manifest};
-pub use plain::is_plain;
 pub use refusal::{ManifestKey, Unreadable};
 pub use round_trip::{image_is_json, image_reads_back, index_is_json, index_reads_back};
 pub use writing::{write_image, write_index};

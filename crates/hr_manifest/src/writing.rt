@@ -4,7 +4,8 @@ ghost use Rattle.std.specs.Prelude.{◌≡◌, ◌++◌, ◌^◌, ◌<◌, ◌�
 ghost use Rattle.std.specs.List.{All};
 ghost use Rattle.hr_manifest.specs.Canonical.{blob_of, descriptor, descriptor_with, descriptors, image_children, image_media, image_text, index_media, index_text, layer_of};
 ghost use Rattle.hr_manifest.specs.Reading.{Reads};
-ghost use Rattle.hr_manifest.specs.Writable.{IsFit, IsListed, IsPlain};
+ghost use Rattle.hr_text.specs.Escaping.{IsUnescaped};
+ghost use Rattle.hr_manifest.specs.Writable.{IsFit, IsListed};
 ghost use Rattle.hr_manifest.specs.declared.manifest.TheConstants.{CHILD_LIMIT, MANIFEST_LIMIT};
 
 use crate::Child;
@@ -40,7 +41,7 @@ pub fn write_image(alloc: Global, config: &[u8], layers: &[Bytes]) -> Result<Byt
 /// The index of these children, in order: one line of JSON. Their kinds are not written. No media
 /// type has a byte that JSON escapes: 0 to 31, `"` and `\`.
 pub fn write_index(alloc: Global, children: &[Child]) -> Result<Bytes, Memory>
-    requires { All (λ child. IsPlain child.media) children.now }
+    requires { All (λ child. IsUnescaped child.media) children.now }
     ensures text { IfOk result (λ text. text ≡ index_text children.now) }
 
     // Within the limits of a manifest it reads as these children, where an index can list them.

@@ -1,9 +1,9 @@
 //! Texts as Python's `json` and `hashlib` give them.
 
 ghost use Rattle.std.specs.Prelude.{IfOk};
-ghost use Rattle.hr_manifest.specs.Writable.{IsPlain};
+ghost use Rattle.hr_text.specs.Escaping.{IsUnescaped};
 
-use crate::{Child, ChildKind, is_plain, write_image, write_index};
+use crate::{Child, ChildKind, is_unescaped, write_image, write_index};
 use hr_base::{Bytes, List};
 use hr_digest::Digest;
 use std::alloc::Global;
@@ -22,9 +22,9 @@ fn layers_of(alloc: Global, contents: &[&[u8]]) -> Result<List<Bytes>, Fail> {
 
 // A manifest under a media type, as a child of an index.
 fn child_of(alloc: Global, media: &[u8], text: &Bytes) -> Result<Child, Fail>
-    ensures { IfOk result (λ child. IsPlain child.media) }
+    ensures { IfOk result (λ child. IsUnescaped child.media) }
 {
-    if !is_plain(media) {
+    if !is_unescaped(media) {
         return Err(Fail::from("a plain media type"));
     }
     Ok(Child {
@@ -71,21 +71,6 @@ fn an_index_may_list_nothing(rt: HostRuntime) -> Result<(), Fail> {
         b"{\"schemaVersion\":2,\"mediaType\":\"application/vnd.oci.image.index.v1+json\",\"manifests\":[]}";
     assert_eq!(rt; text.view(), want.as_slice());
     Ok(())
-}
-
-#[test]
-fn quotes_backslashes_and_controls_are_not_plain(rt: HostRuntime) {
-    let cases: [(&[u8], bool); 6] = [
-        (b"", true),
-        (b"a/b+c; d=e \x7f\x80\xff", true),
-        (b"a\"b", false),
-        (b"a\\", false),
-        (b"\x1f", false),
-        (b"\0", false),
-    ];
-    for (bytes, want) in cases {
-        assert_eq!(rt; is_plain(bytes), want, "{bytes:?}");
-    }
 }
 
 fn two_equal_layers() -> &'static [u8] {

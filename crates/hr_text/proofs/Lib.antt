@@ -1,5 +1,6 @@
 pub mod CutLaws
 pub mod CutLemmas
+pub mod EscapeLaws
 pub mod HexLaws
 pub mod HexLemmas
 pub mod NumberLaws
