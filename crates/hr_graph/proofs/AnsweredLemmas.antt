@@ -1,7 +1,7 @@
 -- What each answer that is taken changes in a walk.
-use Rattle.std.proofs.Common.{◌≡◌, refl, sym, ap, subst, ◌∙◌, ℕ, ◌+◌, ◌≤◌, ◌<◌, ◌⊎◌, inl, inr, Bool, true, false, cond, List, [], ◌∷◌, length, arith}
+use Rattle.std.proofs.Common.{◌≡◌, refl, sym, ap, subst, ◌∙◌, ℕ, ◌≤◌, ◌<◌, ◌⊎◌, inl, inr, Bool, true, false, cond, List, [], ◌∷◌, length, arith}
 use Rattle.std.proofs.lemmas.Bool.{eqb-true, leb-true, leb-false}
-use Rattle.std.specs.Prelude.{Option, Some, None, Result, Ok, Err, ◌==◌, ◌≢◌, max, nat_le, Contains}
+use Rattle.std.specs.Prelude.{Option, Some, None, Result, Ok, Err, ◌==◌, ◌≢◌, max, nat_le}
 use Rattle.hr_digest.specs.declared.digest.Digest.{Digest}
 use Rattle.hr_manifest.specs.Manifest.{Parts}
 use Rattle.hr_manifest.specs.declared.child.Child.{Child}
@@ -16,7 +16,7 @@ use Rattle.hr_graph.specs.declared.need.WalkRefused.{WalkRefused}
 use Rattle.hr_graph.specs.declared.need.WalkRefused.TheVariants.{SizeDiffers}
 use Rattle.hr_graph.specs.declared.opened.Finished.{Finished}
 use Rattle.hr_graph.specs.declared.opened.Opened.{Opened}
-use Rattle.hr_graph.specs.Answered.{IsSettled, ChildWasOpened, BlobIsToBeCopied, BlobWasFinished, ManifestWasPut, IsAnswered}
+use Rattle.hr_graph.specs.Answered.{IsSettled, ChildWasOpened, BlobWasFinished, ManifestWasPut, IsAnswered}
 use Rattle.hr_graph.specs.Meeting.{moved_to, next_in, settled, settled_by}
 use Rattle.hr_graph.specs.Sound.{Asks, AsksBlob, AsksManifest, IsAttained, IsReady, IsSound}
 use Rattle.hr_graph.specs.Step.{after_found, after_manifest, after_put, begun, height_by, height_of, outcome, outcome_at, with_blob, with_opened, with_put, with_root}
@@ -226,7 +226,7 @@ attained manifests (kid ∷ kids) =
       | inl e ↦ subst (λ (n : ℕ). Attains manifests (kid ∷ kids) n) (sym e)
           (kid_attains manifests kid.kind kid kids refl (known kid.digest manifests) refl)
       | inr e ↦ subst (λ (n : ℕ). Attains manifests (kid ∷ kids) n) (sym e) (elim (attained manifests kids) [
-          | inl none ↦ inl none
-          | inr some ↦ inr (later_attains manifests kid kids later some)
-        ])
+        | inl none ↦ inl none
+        | inr some ↦ inr (later_attains manifests kid kids later some)
+      ])
     ]

@@ -1,6 +1,6 @@
 -- What holds of a run of a walk.
-use Rattle.std.proofs.Common.{◌≡◌, ◌≢◌, ◌⊎◌, inl, inr, ℕ, zero, suc, ◌+◌, ◌<◌, Bool, true, false, cond, List, [], ◌∷◌, ◌++◌, length, refl, sym, ◌∙◌, ap, subst, arith}
-use Rattle.std.specs.Prelude.{Option, Some, None, Ok, Err, Result, Contains, map}
+use Rattle.std.proofs.Common.{◌≡◌, ◌⊎◌, inl, inr, ℕ, zero, suc, Bool, true, false, cond, List, [], ◌∷◌, ◌++◌, refl, sym, ◌∙◌, ap, subst, arith}
+use Rattle.std.specs.Prelude.{Option, Some, None, Ok, Err, Contains, map}
 use Rattle.std.specs.List.{AllByRecursion, IsDistinct}
 use Rattle.std.specs.Map.{keys_of}
 use Rattle.hr_digest.specs.declared.digest.Digest.{Digest}
@@ -15,12 +15,11 @@ use Rattle.hr_graph.specs.declared.need.Given.TheVariants as given
 use Rattle.hr_graph.specs.declared.need.Need.{Need}
 use Rattle.hr_graph.specs.declared.need.Need.TheVariants as need
 use Rattle.hr_graph.specs.declared.need.WalkRefused.{WalkRefused}
-use Rattle.hr_graph.specs.declared.opened.Finished.{Finished}
 use Rattle.hr_graph.specs.declared.opened.Opened.{Opened}
-use Rattle.hr_graph.specs.Answered.{IsSettled, IsAnswered, ManifestWasPut}
+use Rattle.hr_graph.specs.Answered.{IsSettled, IsAnswered}
 use Rattle.hr_graph.specs.Meeting.{moved_to}
 use Rattle.hr_graph.specs.Reached.{AreFromReadings, IsFromReading, IsOpenedFrom, IsRefusal}
-use Rattle.hr_graph.specs.Run.{Exchange, exchanged, blob_done, manifest_done, blobs_done, manifests_done, WasFinished, WasTold, HasRun, WasGiven, ComesAfterAll, IsInOrder, AreInOrder, IsOrderly, IsWholeRun}
+use Rattle.hr_graph.specs.Run.{Exchange, exchanged, blob_done, manifest_done, blobs_done, manifests_done, WasFinished, WasTold, HasRun, WasGiven, ComesAfterAll, AreInOrder, IsOrderly, IsWholeRun}
 use Rattle.hr_graph.specs.Sound.{IsBelow, IsBelowAs, IsSound}
 use Rattle.hr_graph.specs.Step.{begun, finished_of, height_of, outcome, with_blob, with_opened, with_put, with_root}
 use Rattle.hr_graph.specs.Walk.{Answers, View, known}
@@ -205,9 +204,9 @@ module _ (root : Digest) (manifest : Parts) where
       elim (given_now (exchanged asked answer) before d m given_one) [
         | inl now ↦ absurd (other d (ap (λ (e : Exchange). e.asked) now))
         | inr earlier ↦ elim (l.held d m earlier) [
-            | inl at ↦ inl (subst (λ (ps : List (Digest × Parts)). Contains ps (d, m)) (sym pairs) at)
-            | inr at ↦ inr (subst (λ (ds : List Digest). Contains ds d) (sym puts) at)
-          ]
+          | inl at ↦ inl (subst (λ (ps : List (Digest × Parts)). Contains ps (d, m)) (sym pairs) at)
+          | inr at ↦ inr (subst (λ (ds : List Digest). Contains ds d) (sym puts) at)
+        ]
       ]
 
   finished_kind : (before : List Exchange) (old : View) (height : ℕ) (k : ChildKind) (kid : Child) → Leaves before old
@@ -225,13 +224,13 @@ module _ (root : Digest) (manifest : Parts) where
     held_newest : (m : Parts) → WasGiven root manifest before d m → m ≡ o.manifest
     held_newest m given_one = elim (l.held d m given_one) [
       | inl at ↦ elim (first_or_later (o.digest, o.manifest) (pairs_of below) (d, m)
-            (subst (λ (os : List Opened). Contains (pairs_of os) (d, m)) opened at)) [
-          | inl same ↦ sym (ap (λ (p : Digest × Parts). p.1) same)
-          | inr later ↦
-              let once = subst (λ (os : List Opened). IsDistinct digest_eq (map (λ p. p.digest) os)) opened l.sound.steady.once_open in
-              absurd (below_apart o.digest below m (distinct_head o.digest (map (λ p. p.digest) below) once)
-              (subst (λ (x : Digest). Contains (pairs_of below) (x, m)) (sym named) later))
-        ]
+          (subst (λ (os : List Opened). Contains (pairs_of os) (d, m)) opened at)) [
+            | inl same ↦ sym (ap (λ (p : Digest × Parts). p.1) same)
+            | inr later ↦
+                let once = subst (λ (os : List Opened). IsDistinct digest_eq (map (λ p. p.digest) os)) opened l.sound.steady.once_open in
+                absurd (below_apart o.digest below m (distinct_head o.digest (map (λ p. p.digest) below) once)
+                (subst (λ (x : Digest). Contains (pairs_of below) (x, m)) (sym named) later))
+          ]
       | inr put ↦
           let new = subst (λ (os : List Opened). AllByRecursion (λ p. known p.digest old.manifests ≡ None) os) opened l.sound.steady.not_put in
           absurd (key_known d old.manifests (subst (λ (ds : List Digest). Contains ds d) (sym l.manifests) put)
@@ -259,15 +258,15 @@ module _ (root : Digest) (manifest : Parts) where
               let other : need.PutManifest d ≡ need.Manifest x = ap (λ (e : Exchange). e.asked) now in
               absurd (let no : ⊥ = cc in no)
           | inr earlier ↦ elim (l.held x m earlier) [
-              | inl at ↦ elim (first_or_later (o.digest, o.manifest) (pairs_of below) (x, m)
-                    (subst (λ (os : List Opened). Contains (pairs_of os) (x, m)) opened at)) [
+            | inl at ↦ elim (first_or_later (o.digest, o.manifest) (pairs_of below) (x, m)
+                (subst (λ (os : List Opened). Contains (pairs_of os) (x, m)) opened at)) [
                   | inl same ↦
                       let e : d ≡ x = sym named ∙ ap (λ (p : Digest × Parts). p.0) same in
                       inr (subst (λ (y : Digest). Contains (manifests_done before ++ d ∷ []) y) e (contains_snoc (manifests_done before) d))
                   | inr later ↦ inl (subst (λ (ps : List (Digest × Parts)). Contains ps (x, m)) (sym pairs) later)
                 ]
-              | inr put ↦ inr (contains_more (manifests_done before) (d ∷ []) x put)
-            ]
+            | inr put ↦ inr (contains_more (manifests_done before) (d ∷ []) x put)
+          ]
         ]
 
   -- ---- each answer
@@ -290,9 +289,9 @@ module _ (root : Digest) (manifest : Parts) where
               let p : (d, m) ≡ (x, y) = ap (λ (z : Digest). (z, m)) e ∙ ap (λ (z : Parts). (x, z)) f in
               inl (subst (λ (ps : List (Digest × Parts)). Contains ps (x, y)) (sym pairs) (zero, omega arith, p))
           | inr earlier ↦ elim (l.held x y earlier) [
-              | inl at ↦ inl (subst (λ (ps : List (Digest × Parts)). Contains ps (x, y)) (sym pairs) (contains_later (d, m) (pairs_of old.opened) (x, y) at))
-              | inr at ↦ inr (contains_more (manifests_done before) [] x at)
-            ]
+            | inl at ↦ inl (subst (λ (ps : List (Digest × Parts)). Contains ps (x, y)) (sym pairs) (contains_later (d, m) (pairs_of old.opened) (x, y) at))
+            | inr at ↦ inr (contains_more (manifests_done before) [] x at)
+          ]
         ];
         read = read;
         order = (tt, l.order);
@@ -378,9 +377,11 @@ module _ (root : Digest) (manifest : Parts) where
       let l = leaves before at.0 at.1 in
       let ends = done_last at.0 view e.answer l.sound at.3 at.4 done in
       let asked : e.asked ≡ need.PutManifest root =
-      sym at.2 ∙ ends.0 ∙ ap (λ (x : Digest). need.PutManifest x) l.is_root in
-      (before, ap (λ (n : Need). exchanged n e.answer ∷ before) asked
-      ∙ ap (λ (g : Given). exchanged (need.PutManifest root) g ∷ before) ends.1)
+      sym at.2 ∙ ends.0 ∙ ap (λ (x : Digest). need.PutManifest x) l.is_root in (
+        before,
+        ap (λ (n : Need). exchanged n e.answer ∷ before) asked
+            ∙ ap (λ (g : Given). exchanged (need.PutManifest root) g ∷ before) ends.1,
+      )
 
   pub whole : (run : List Exchange) (view : View) → HasRun root manifest run view → view.need ≡ need.Done
       → IsWholeRun root manifest run

@@ -1,7 +1,7 @@
 -- Laws of walks over their views, for lemmas of the crates above; most are contracts in
 -- src/laws.rt too.
 use Rattle.std.proofs.Common.{◌≡◌, ℕ, ◌+◌, ◌<◌, ◌⊎◌, false, List, [], ◌∷◌, length, sym, ◌∙◌, ap, subst}
-use Rattle.std.specs.Prelude.{◌≢◌, Some, None, Ok}
+use Rattle.std.specs.Prelude.{◌≢◌, Some, Ok}
 use Rattle.std.specs.List.{AllByRecursion}
 use Rattle.hr_digest.specs.Digest.{digest_of}
 use Rattle.hr_digest.specs.declared.digest.Digest.{Digest}

@@ -6,7 +6,7 @@ use Rattle.hr_graph.specs.declared.opened.Opened.{Opened}
 use Rattle.hr_graph.specs.declared.opened.Finished.{Finished}
 use Rattle.hr_graph.specs.Walk.{View}
 
--- the newest open manifest is the last of the vector
+-- A walk by its fields; the newest open manifest is the last of the vector.
 abbrev pub view_of : Digest → List Opened → List (Digest × ℕ) → List (Digest × Finished) → Need
     → View
 view_of root opened blobs manifests need = record {

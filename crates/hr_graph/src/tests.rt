@@ -135,8 +135,8 @@ fn what_was_refused_can_be_given_again(rt: HostRuntime) -> Result<(), Fail> {
         .ok()
         .ok_or("it is refused")?;
     assert_eq!(rt; walk.need(), Need::HasBlob(blob));
-    assert_eq!(rt; walk.size(), 2);
-    assert!(rt; walk.putting().is_none());
+    assert_eq!(rt; walk.size(), Some(2));
+    assert_eq!(rt; walk.root(), root);
     let refused = WalkRefused::SizeDiffers {
         digest: blob,
         said: 2,
@@ -148,7 +148,11 @@ fn what_was_refused_can_be_given_again(rt: HostRuntime) -> Result<(), Fail> {
     if let Need::HasBlob(_) = walk.need() {
         assert_eq!(rt; walk.give(Given::Found { len: Some(2) }), Ok(()));
     }
-    assert_eq!(rt; walk.need(), Need::PutManifest(root));
-    assert!(rt; walk.putting().is_some());
-    Ok(())
+    assert_eq!(rt; walk.size(), None);
+    if let Need::PutManifest(digest) = walk.need() {
+        assert_eq!(rt; digest, root);
+        assert_eq!(rt; Digest::of(walk.putting().bytes()), root);
+        return Ok(());
+    }
+    Err("it is not to be put")?
 }
