@@ -1,7 +1,8 @@
 -- The first fault of a text, by what was found.
 use Rattle.std.proofs.Common.{◌≡◌, ℕ, ◌<◌, ◌≤◌, true, false, nat_lt, Option, Some, None, List, length, refl, sym, ap, ◌∙◌}
 use Rattle.std.specs.Option.{option_or}
-use Rattle.std.proofs.Common.{lt-ltb, le-ltb}
+use Rattle.std.proofs.Common.{lt-ltb, le-ltb, inl, inr}
+use Rattle.std.proofs.lemmas.Bool.{cases_lt}
 use Rattle.hr_pattern.specs.declared.part.Reading.{Reading}
 use Rattle.hr_pattern.specs.declared.refusal.PatternRefused.{PatternRefused}
 use Rattle.hr_pattern.specs.declared.refusal.PatternRefused.TheVariants.{At, Memory}
@@ -32,3 +33,21 @@ other text reading o h is few found =
 pub expanded : (text : List ℕ) (reading : Reading) → reading ≡ reading_of text → forms reading.parts ≡ forms_of text
 unfolding forms_of
 expanded text reading is = ap (λ (r : Reading). forms r.parts) is
+
+-- what a text without a fault is
+pub sound_short : (text : List ℕ) → fault_of text ≡ None → length text ≤ 1024
+sound_short text sound =
+    elim (cases_lt 1024 (length text)) [
+      | inl more ↦ let fault : fault_of text ≡ Some (At 1024 Long) = long text more in absurd (cc)
+      | inr few ↦ few
+    ]
+
+no_second : {X : Type 0} (a b : Option X) → option_or a b ≡ None → b ≡ None
+no_second None b e = e
+no_second (Some x) b e = absurd (cc)
+
+pub sound_reading : (text : List ℕ) → fault_of text ≡ None → (reading_of text).fault ≡ None
+sound_reading text sound = no_second (too_many 1 (reading_of text).parts) (reading_of text).fault (sym (short text (sound_short text sound)) ∙ sound)
+
+pub same_forms : (text : List ℕ) → forms_of text ≡ forms (reading_of text).parts
+same_forms text = sym (expanded text (reading_of text) refl)

@@ -52,7 +52,7 @@ FormCovers text form = CoversPath (slice_split is_slash form) (components text)
 abbrev pub Fits : List ℕ → List ℕ → Type 0
 Fits pattern text = Any (FormCovers text) (forms_of pattern)
 
--- a text that has no fault, and its expanded forms
-pub record IsRead (text : List ℕ) (made : List (List Item)) : Type 0 where
+-- A text has no fault, and so many expanded forms.
+pub record IsRead (text : List ℕ) (count : ℕ) : Type 0 where
   pub sound : fault_of text ≡ None
-  pub forms : made ≡ forms_of text
+  pub forms : count ≡ length (forms_of text)

@@ -1,3 +1,4 @@
+pub mod Choice
 pub mod Component
 pub mod Covers
 pub mod Form

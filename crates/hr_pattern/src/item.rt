@@ -36,6 +36,12 @@ impl Item {
     }
 }
 
+impl Default for Item {
+    fn default() -> Item {
+        Item::Any
+    }
+}
+
 impl Separated for Item {
     ghost use Rattle.hr_pattern.specs.Item.{is_slash};
 

@@ -5,6 +5,7 @@
 mod component;
 mod covering;
 mod escaping;
+mod expansion;
 mod form;
 mod item;
 mod part;

@@ -1,6 +1,6 @@
 //! Whether the components of a form cover the components of a text. This walk too remembers the
 //! newest `**` alone, so that it compares each component with each at most once.
-ghost use Rattle.std.specs.Prelude.{◌≡◌, ◌↔◌, [], IsTrue, Any};
+ghost use Rattle.std.specs.Prelude.{◌≡◌, ◌↔◌, [], IsTrue};
 ghost use Rattle.hr_pattern.specs.Covers.{AfterRun};
 ghost use Rattle.hr_pattern.specs.Form.{FormCovers};
 ghost use Rattle.hr_pattern.specs.Item.{CoversPath, is_any_path};
@@ -8,17 +8,9 @@ ghost use Rattle.hr_pattern.specs.Item.{CoversPath, is_any_path};
 use crate::component::Components;
 use crate::covering::covers_bytes;
 use crate::item::Item;
-use hr_base::List;
-
-/// Whether some form covers a text.
-pub fn some_covers(forms: &[List<Item>], text: &[u8]) -> bool
-    ensures { IsTrue result ↔ Any (FormCovers text.now) forms.now }
-{
-    forms.iter().any(|form| covers(form.view(), text))
-}
 
 /// Whether a form covers a text.
-fn covers(form: &[Item], text: &[u8]) -> bool
+pub fn covers(form: &[Item], text: &[u8]) -> bool
     ensures { IsTrue result ↔ FormCovers text.now form.now }
 {
     let mut asked = Components::of(form);

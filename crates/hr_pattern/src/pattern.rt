@@ -9,13 +9,12 @@ ghost use Rattle.std.specs.Cmp.Lexicographic.{nat_list_eq_equiv, pointwise};
 ghost use Rattle.hr_pattern.specs.Form.{Fits, fault_of};
 ghost use Rattle.hr_pattern.specs.Reading.{UnlessMemory};
 
-use crate::form::{expand, refused_as_many};
-use crate::item::Item;
+use crate::expansion::some_covers;
+use crate::form::count_forms;
 use crate::part::read_parts;
-use crate::path::some_covers;
 use crate::refusal::{PatternRefused, Why};
 use crate::sign::signs_of;
-use hr_base::{Bytes, List, Memory};
+use hr_base::{Bytes, Memory};
 use std::alloc::Global;
 use std::marker::Model;
 
@@ -26,7 +25,7 @@ pub const LIMIT: usize = 1024;
 #[derive(Debug, Drop)]
 pub struct Pattern {
     text: Bytes,
-    forms: List<List<Item>>,
+    forms: usize,
 }
 
 impl Model for Pattern {
@@ -43,7 +42,7 @@ impl Model for Pattern {
 
 impl Pattern {
     /// Reads a pattern of at most `LIMIT` bytes, with at most `FORMS_LIMIT` expanded forms. It
-    /// keeps the expanded forms, none of which has more items than the text has bytes.
+    /// keeps the bytes and the count of the forms.
     pub fn read(alloc: Global, text: &[u8]) -> Result<Pattern, PatternRefused>
         ensures ok { OnOk result (fault_of text.now ≡ None) }
         ensures text { IfOk result (λ pattern. pattern ≡ text.now) }
@@ -57,24 +56,22 @@ impl Pattern {
         }
         let signs = signs_of(alloc, text)?;
         let reading = read_parts(alloc, signs.view())?;
-        if let Some(refused) = refused_as_many(reading.parts.view()) {
-            return Err(refused);
-        }
+        let forms = count_forms(reading.parts.view())?;
         if let Some(refused) = reading.fault {
             return Err(refused);
         }
-        let forms = List::from(expand(alloc, reading.parts.view())?);
         let text = Bytes::of(alloc, text)?;
         Ok(Pattern { text, forms })
     }
 
-    /// Whether a text fits. It takes no memory. For one expanded form it compares each item with
-    /// each byte at most once, so that its time is within the length of the pattern times the
-    /// length of the text.
+    /// Whether a text fits. It takes no memory: each expanded form is written into the same place
+    /// of `LIMIT` items, and walked there. For one form it reads the pattern once and compares each
+    /// item with each byte at most once, so that its time is within the count of the forms times
+    /// the length of the pattern times the length of the text and one.
     pub fn fits(&self, text: &[u8]) -> bool
         ensures { IsTrue result ↔ Fits self.now text.now }
     {
-        some_covers(self.forms.view(), text)
+        some_covers(self.text.view(), self.forms, text)
     }
 
     /// The bytes that were read. They are read again as an equal pattern.

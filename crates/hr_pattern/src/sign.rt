@@ -48,7 +48,7 @@ pub fn signs_of(alloc: Global, text: &[u8]) -> Result<List<Placed>, Memory>
 }
 
 /// The sign at a place of a text, and the place behind it.
-fn sign_at(text: &[u8], at: usize) -> (Sign, usize)
+pub fn sign_at(text: &[u8], at: usize) -> (Sign, usize)
     requires { at < length text.now }
     ensures sign { signs_from at (drop at text.now)
         ≡ record { at = at; sign = result.0 } ∷ signs_from result.1 (drop result.1 text.now) }
