@@ -11,7 +11,7 @@ use Rattle.jiff_core.specs.Time.{time_seconds}
 use Rattle.jiff_core.proofs.DateLemmas.{epoch_day_injective}
 use Rattle.jiff_core.proofs.SignedLemmas.{signed_arith}
 use Rattle.hr_periodic.specs.declared.cron.Cron.{Cron}
-use Rattle.hr_periodic.specs.Cron.{fits_date, fits_time, days_fit, Matches, IsNextMatch, HasNoNextMatch}
+use Rattle.hr_periodic.specs.Cron.{fits_date, fits_time, days_fit, Matches, IsNextMatch, HasNoMatch}
 use Rattle.hr_periodic.specs.Field.{has}
 use Rattle.hr_periodic.specs.Steps.{fits_day, DayFits, NonePasses, IsLeast, IsFirst, NoMatch}
 
@@ -119,8 +119,8 @@ none_left cron moment answer on none k from below m =
     both_ways _ fails (parts_from cron k answer m (on_day cron _ _ answer same on)).1
 
 -- the first match from the moment after is the next one, where it is near enough
-pub next_from : (cron : Cron) (after moment found : ℕ) → after < moment → NoMatch cron (after + 1) moment → IsFirst cron moment found → found ≤ after + 259_200_000 → IsNextMatch cron after found
-next_from cron after moment found above none first within =
+pub next_from : (cron : Cron) (after moment until found : ℕ) → after < moment → NoMatch cron (after + 1) moment → IsFirst cron moment found → found ≤ until → IsNextMatch cron after until found
+next_from cron after moment until found above none first within =
     let from = first.from in
     record {
       above = omega arith;
@@ -141,9 +141,9 @@ none_later cron low middle high first then k from below m =
     elim (cases_lt k middle) [ inl before ↦ first k from before m | inr later ↦ then k later below m ]
 
 -- where the first match is too far, there is no next one
-pub no_next_from : (cron : Cron) (after last moment found : ℕ) → last ≡ after + 259_200_000 → NoMatch cron (after + 1) moment → IsFirst cron moment found → last < found → HasNoNextMatch cron after
-no_next_from cron after last moment found e none first far k low high m =
+pub no_next_from : (cron : Cron) (after until moment found : ℕ) → NoMatch cron (after + 1) moment → IsFirst cron moment found → until < found → HasNoMatch cron after until
+no_next_from cron after until moment found none first far k low high m =
     none_later cron (after + 1) moment found none first.least k (omega arith) (omega arith) m
 
-pub no_next_left : (cron : Cron) (after last moment : ℕ) → last ≡ after + 259_200_000 → NoMatch cron (after + 1) moment → last < moment → HasNoNextMatch cron after
-no_next_left cron after last moment e none far k low high m = none k (omega arith) (omega arith) m
+pub no_next_left : (cron : Cron) (after until moment : ℕ) → NoMatch cron (after + 1) moment → until < moment → HasNoMatch cron after until
+no_next_left cron after until moment none far k low high m = none k (omega arith) (omega arith) m

@@ -7,8 +7,8 @@ use Rattle.std.proofs.lemmas.List.Elements.{recursion_from_All}
 use Rattle.hr_base.specs.declared.number.PolicyNo.{PolicyNo}
 use Rattle.hr_base.specs.declared.number.Moment.{Moment}
 use Rattle.hr_periodic.specs.declared.cron.Cron.{Cron}
-use Rattle.hr_periodic.specs.Cron.{IsNextMatch, HasNoNextMatch}
-use Rattle.hr_periodic.specs.Periodic.{Ascends, Fires, AreDue}
+use Rattle.hr_periodic.specs.Cron.{FindsNext}
+use Rattle.hr_periodic.specs.Periodic.{Ascends, AreDue}
 
 abbrev number_of : {X : Type 0} → PolicyNo × X → ℕ
 number_of x = x.0.0
@@ -21,26 +21,17 @@ Ascends-from_sorted (x ∷ xs) h = (
   Ascends-from_sorted xs (λ i j d le within. h (suc i) (suc j) d (omega arith) (omega arith)),
 )
 
--- a next match that is after now is later than now, and so is any other
-pub later_next : (cron : Cron) (after now found : ℕ) → IsNextMatch cron after found → now < found → (next : ℕ) → IsNextMatch cron after next → now < next
-later_next cron after now found is far next other =
-    let least = is.least next other.above other.matches in
-    omega arith
-
-pub no_next : (cron : Cron) (after now : ℕ) → HasNoNextMatch cron after → (next : ℕ) → IsNextMatch cron after next → now < next
-no_next cron after now none next other = absurd (none next other.above other.within other.matches)
-
 -- a loop's step: one more policy was asked
-pub due_more : (moment now : ℕ) (entries : List (PolicyNo × Cron)) (i : ℕ) (d : PolicyNo × Cron) (fired : Option Moment) (due more : List (PolicyNo × Moment)) → i < length entries → Fires moment now (get_or entries i d).1 fired → more ≡ due ++ option_to_list (option_map (λ at. ((get_or entries i d).0, at)) fired)
+pub due_more : (moment now : ℕ) (entries : List (PolicyNo × Cron)) (i : ℕ) (d : PolicyNo × Cron) (found : Option Moment) (due more : List (PolicyNo × Moment)) → i < length entries → FindsNext (get_or entries i d).1 moment now found → more ≡ due ++ option_to_list (option_map (λ at. ((get_or entries i d).0, at)) found)
     → ((rest : List (PolicyNo × Moment)) → AreDue moment now (drop i entries) rest → AreDue moment now entries (due ++ rest))
     → (rest : List (PolicyNo × Moment)) → AreDue moment now (drop (i + 1) entries) rest → AreDue moment now entries (more ++ rest)
-due_more moment now entries i d fired due more within fires is so_far rest others =
+due_more moment now entries i d found due more within finds is so_far rest others =
     let entry : PolicyNo × Cron = get_or entries i d in
-    let tail = option_to_list (option_map (λ (at : Moment). (entry.0, at)) fired) in
+    let tail = option_to_list (option_map (λ (at : Moment). (entry.0, at)) found) in
     let P : List (PolicyNo × Cron) → Type 0 = λ left. AreDue moment now left (tail ++ rest) in
     let Q : List (PolicyNo × Moment) → Type 0 = λ due. AreDue moment now entries due in
     let next : drop i entries ≡ entry ∷ drop (i + 1) entries = rw add-one (drop-cons entries i d within) in
-    let first : AreDue moment now (entry ∷ drop (i + 1) entries) (tail ++ rest) = record { fired = fired; fires = fires; rest = rest; others = others; is = refl } in
+    let first : AreDue moment now (entry ∷ drop (i + 1) entries) (tail ++ rest) = record { found = found; finds = finds; rest = rest; others = others; is = refl } in
     subst Q (sym (append_assoc due tail rest) ∙ ap (λ l. l ++ rest) (sym is)) (so_far (tail ++ rest) (subst P (sym next) first))
 
 -- the loop's end: all policies were asked
@@ -56,7 +47,7 @@ due_keeps : (P : ℕ → Type 0) (moment now : ℕ) (entries : List (PolicyNo ×
 due_keeps P moment now [] due is all = rw is tt
 due_keeps P moment now (entry ∷ entries) due is all =
     let rest = due_keeps P moment now entries is.rest is.others all.1 in
-    rw is.is (elim is.fired as (λ fired. AllByRecursion (λ y. P y.0.0) (option_to_list (option_map (λ at. (entry.0, at)) fired) ++ is.rest)) [
+    rw is.is (elim is.found as (λ found. AllByRecursion (λ y. P y.0.0) (option_to_list (option_map (λ at. (entry.0, at)) found) ++ is.rest)) [
       | None ↦ rest
       | Some at ↦ (all.0, rest)
     ])
@@ -67,7 +58,7 @@ Ascends-due moment now [] due is order = rw is tt
 Ascends-due moment now (entry ∷ entries) due is order =
     let rest = Ascends-due moment now entries is.rest is.others order.1 in
     let above = due_keeps (λ n. entry.0.0 ≤ n) moment now entries is.rest is.others order.0 in
-    rw is.is (elim is.fired as (λ fired. Ascends (option_to_list (option_map (λ at. (entry.0, at)) fired) ++ is.rest)) [
+    rw is.is (elim is.found as (λ found. Ascends (option_to_list (option_map (λ at. (entry.0, at)) found) ++ is.rest)) [
       | None ↦ rest
       | Some at ↦ (above, rest)
     ])

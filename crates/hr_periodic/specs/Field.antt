@@ -3,10 +3,10 @@ use Rattle.std.specs.Prelude.{◌==◌, ℕ, Bool}
 use Rattle.std.specs.Int.{bit_at}
 use Rattle.hr_periodic.specs.declared.field.Field.{Field}
 
--- the number is in a set that is kept as the bits of a number
+-- Whether a number is in a set that is kept as the bits of another.
 abbrev pub holds : ℕ → ℕ → Bool
 holds numbers number = bit_at numbers number == 1
 
--- the number matches in the field
+-- Whether a number matches in a field.
 abbrev pub has : Field → ℕ → Bool
 has field number = holds field.numbers number

@@ -1,16 +1,14 @@
 //! Schedules of six fields, and their next matching moment. (Our own, after the fields of cron.)
-ghost use Rattle.std.specs.Prelude.{◌≡◌, ◌↔◌, ◌+◌, ◌*◌, ◌/◌, ◌<◌, IfSome, IfNone, IsOk, IfOk, IfErr};
+ghost use Rattle.std.specs.Prelude.{◌≡◌, ◌↔◌, ◌+◌, ◌*◌, ◌/◌, ◌<◌, ◌≤◌, IfSome, IfNone, IsOk, IfOk, IfErr};
+ghost use Rattle.hr_base.specs.Moment.{capped};
 
 use crate::field::Field;
 use crate::reading::{Limits, take_field};
-use hr_base::Moment;
+use hr_base::{LAST_MOMENT, Moment};
 use jiff_core::civil::Date;
 
-/// The last moment, in the year 9987. A later one counts as this.
-pub(crate) const LAST_MOMENT: u64 = 253_000_000_000;
-
-/// How far after a moment its next match may be: 3,000 days, in seconds.
-const HORIZON: u64 = 259_200_000;
+/// How far after a moment `Cron::next` looks: 3,000 days, in seconds.
+pub const HORIZON: u64 = 259_200_000;
 
 /// The seconds of a day.
 const DAY: u64 = 86_400;
@@ -42,7 +40,7 @@ pub struct Cron {
 }
 
 impl Cron {
-    ghost use Rattle.hr_periodic.specs.Cron.{counted, days_fit, HasNoNextMatch, IsNextMatch};
+    ghost use Rattle.hr_periodic.specs.Cron.{days_fit, FindsNext};
     ghost use Rattle.hr_periodic.specs.Reading.{fault_of, HasFault, StandsFor};
     ghost use Rattle.hr_periodic.specs.Steps.{Searches, fits_hour, fits_day, DayFits, IsFirst, NoMatch};
 
@@ -82,14 +80,29 @@ impl Cron {
         *self
     }
 
-    /// The least match after a moment, at most 3,000 days after it, also past the last moment.
-    /// A moment after the last one, 253,000,000,000, counts as that. It takes no memory.
+    /// The least match above a moment and at most `HORIZON` after it, also past the last moment.
+    /// A moment beyond `LAST_MOMENT` counts as that. It takes no memory.
     pub fn next(&self, after: Moment) -> Option<Moment>
-        ensures found { IfSome result (λ next. IsNextMatch self.now (counted after.0) next.0) }
-        ensures absent { IfNone result (HasNoNextMatch self.now (counted after.0)) }
+        ensures { FindsNext self.now (capped after.0) (capped after.0 + HORIZON) result }
     {
-        let after = after.0.min(LAST_MOMENT);
-        let last = after + HORIZON;
+        let after = Moment::capped(after.0).0;
+        self.first_above(after, after + HORIZON)
+    }
+
+    /// The least match above a moment and at most `until`. A moment beyond `LAST_MOMENT` counts as
+    /// that. It takes no memory, and looks at each day from the moment to its answer once.
+    pub fn next_until(&self, after: Moment, until: Moment) -> Option<Moment>
+        ensures { FindsNext self.now (capped after.0) (capped until.0) result }
+    {
+        self.first_above(Moment::capped(after.0).0, Moment::capped(until.0).0)
+    }
+
+    // The least match above a moment and at most another.
+    fn first_above(&self, after: u64, last: u64) -> Option<Moment>
+        requires after { after ≤ LAST_MOMENT }
+        requires last { last ≤ LAST_MOMENT + HORIZON }
+        ensures { FindsNext self.now after last result }
+    {
         let mut moment = after + 1;
         while moment <= last {
             if let Some(found) = self.first_in_day(moment) {

@@ -1,10 +1,13 @@
 //! One field of a schedule: which numbers match in it. (Our own.)
 ghost use Rattle.std.specs.Prelude.{◌≡◌, ◌<◌, ◌≤◌};
 
+/// The numbers of each field of a schedule are below this.
+pub const NUMBERS: u8 = 60;
+
 /// The numbers that match in one field of a schedule.
 #[derive(Clone, Copy, Debug, PartialEq, Eq)]
 pub struct Field {
-    /// Bit k is set where the number k matches, from 0 to 59.
+    /// Bit k is set where the number k matches. The bits from `NUMBERS` on are 0 in what is read.
     pub numbers: u64,
     /// Whether the text of the field is another than `*` and `?`.
     pub restricted: bool,

@@ -3,9 +3,11 @@
 
 mod cron;
 mod field;
+mod law;
 mod periodic;
 mod reading;
 
-pub use cron::{Cron, CronRefused};
-pub use field::Field;
+pub use cron::{Cron, CronRefused, HORIZON};
+pub use field::{Field, NUMBERS};
+pub use law::a_text_stands_for_one_schedule;
 pub use periodic::Periodic;

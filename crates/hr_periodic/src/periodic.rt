@@ -1,9 +1,9 @@
 //! The schedules of policies, and which of them are due. (Our own.)
 ghost use Rattle.std.specs.Prelude.{◌≡◌, max, IfOk, OnOk, OnErr, IsPermutation};
-ghost use Rattle.hr_periodic.specs.Cron.{counted};
-ghost use Rattle.hr_periodic.specs.Periodic.{Ascends, AreDue, Fires};
+ghost use Rattle.hr_base.specs.Moment.{capped};
+ghost use Rattle.hr_periodic.specs.Periodic.{Ascends, AreDue};
 
-use crate::cron::{Cron, LAST_MOMENT};
+use crate::cron::Cron;
 use hr_base::{List, Memory, Moment, PolicyNo};
 use std::alloc::Global;
 use std::marker::Model;
@@ -24,62 +24,57 @@ impl Model for Periodic {
 
     ghost view = { λ p. record { entries = p.entries.items; moment = p.moment.0 } };
 
-    ghost invariant = { λ p. Ascends p.entries.items × (p.moment.0 ≤ 253_000_000_000) };
+    ghost use Rattle.hr_base.specs.declared.number.TheConstants.{LAST_MOMENT};
+
+    ghost invariant = { λ p. Ascends p.entries.items × (p.moment.0 ≤ LAST_MOMENT) };
 }
 
 impl Periodic {
-    /// The schedules of these policies, from a moment on. It takes no memory. A moment after the
-    /// last one, 253,000,000,000, counts as that. Schedules of one policy stand in any order.
+    /// The schedules of these policies, from a moment on. It takes no memory. A moment beyond
+    /// `LAST_MOMENT` counts as that. Schedules of one policy stand in any order.
     pub fn new(list: List<(PolicyNo, Cron)>, now: Moment) -> Periodic
         ensures entries { IsPermutation list result.entries }
         ensures order { Ascends result.entries }
-        ensures moment { result.moment ≡ counted now.0 }
+        ensures moment { result.moment ≡ capped now.0 }
     {
         let mut entries: Vec<(PolicyNo, Cron)> = list.into();
         entries.sort_unstable_by_key(|entry| entry.0.0);
         Periodic {
             entries,
-            moment: Moment(now.0.min(LAST_MOMENT)),
+            moment: Moment::capped(now.0),
         }
     }
 
-    /// The policies that are due, in the order of their numbers, each with the first match of its
-    /// schedule after the moment of the last call and not after `now`. The matches between that
-    /// one and `now` are merged into it. An earlier `now` than the last call's gives none.
+    /// The policies that are due, in the order of their numbers: each whose schedule has a match
+    /// above the moment of the last call and at most `now`, with the first of them. The others up
+    /// to `now` are merged into it. An earlier `now` than the last call's gives none. It looks at
+    /// the days up to `now` alone.
     pub fn due(&mut self, alloc: Global, now: Moment) -> Result<List<(PolicyNo, Moment)>, Memory>
-        ensures ok { IfOk result (AreDue self.old.moment (counted now.0) self.old.entries) }
+        ensures ok { IfOk result (AreDue self.old.moment (capped now.0) self.old.entries) }
         ensures order { IfOk result (λ due. Ascends due) }
         ensures moment { OnOk result (self.new
-            ≡ record self.old { moment = max self.old.moment (counted now.0) }) }
+            ≡ record self.old { moment = max self.old.moment (capped now.0) }) }
         ensures err { OnErr result (self.new ≡ self.old) }
     {
-        let now = now.0.min(LAST_MOMENT);
+        let now = Moment::capped(now.0);
         let due = due_among(alloc, &self.entries, self.moment, now)?;
-        self.moment = Moment(self.moment.0.max(now));
+        self.moment = Moment(self.moment.0.max(now.0));
         Ok(due)
     }
 }
 
-// The first match after a moment and not after `now`.
-fn fires(cron: &Cron, moment: Moment, now: u64) -> Option<Moment>
-    ensures { Fires (counted moment.0) now cron.now result }
-{
-    let next = cron.next(moment)?;
-    if next.0 <= now { Some(next) } else { None }
-}
-
-// The policies that are due, each with the moment at which its schedule fires.
+// The policies that are due, each with the first match of its schedule.
 fn due_among(
     alloc: Global,
     entries: &[(PolicyNo, Cron)],
     moment: Moment,
-    now: u64,
+    now: Moment,
 ) -> Result<List<(PolicyNo, Moment)>, Memory>
-    ensures { IfOk result (AreDue (counted moment.0) now entries.now) }
+    ensures { IfOk result (AreDue (capped moment.0) (capped now.0) entries.now) }
 {
     let mut due = List::new(alloc);
     for entry in entries {
-        if let Some(at) = fires(&entry.1, moment, now) {
+        if let Some(at) = entry.1.next_until(moment, now) {
             due.push((entry.0, at))?;
         }
     }

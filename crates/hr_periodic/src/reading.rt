@@ -1,13 +1,15 @@
 //! What the text of one field of a schedule stands for. (Our own, after the fields of cron.)
-ghost use Rattle.std.specs.Prelude.{◌≡◌, ◌+◌, ◌<◌, ◌||◌, ℕ, List, ◌∷◌, true, false, length, option_copied, IfSome, IfOk, MatchResult};
+ghost use Rattle.std.specs.Prelude.{◌≡◌, ◌+◌, ◌<◌, ◌≤◌, ◌||◌, ℕ, List, ◌∷◌, true, false, length, option_copied, IfSome, IfOk, MatchResult};
 ghost use Rattle.hr_periodic.specs.declared.field.Field.{Field};
 ghost use Rattle.hr_periodic.specs.declared.reading.Limits.{Limits};
+ghost use Rattle.hr_text.specs.Cutting.{pieces_left, split_at_byte};
 ghost use Rattle.hr_periodic.specs.Field.{holds};
-ghost use Rattle.hr_periodic.specs.Item.{cut_at, digit_of, number_of, number_in, ends_of, is_star, stepped, item_of, covers};
-ghost use Rattle.hr_periodic.specs.Reading.{space, comma, parts, parts_left, are_items, have, is_any, is_field, IsField, AreFields, first_fault};
+ghost use Rattle.hr_periodic.specs.Item.{digit_of, number_of, number_in, ends_of, is_star, stepped, item_of, covers};
+ghost use Rattle.hr_periodic.specs.Reading.{space, comma, are_items, have, is_any, is_field, IsField, AreFields, first_fault};
 
 use crate::cron::CronRefused;
-use crate::field::Field;
+use crate::field::{Field, NUMBERS};
+use hr_text::cut;
 
 /// The least and the greatest number of a field.
 #[derive(Clone, Copy)]
@@ -35,11 +37,12 @@ impl Stretch {
 
     // The numbers that are there already, and those of the stretch.
     fn mark(self, numbers: u64) -> u64
-        requires { 0 < self.step }
-        ensures { (k : ℕ) → k < 60 → holds result k ≡ (holds numbers k || covers self k) }
+        requires step { 0 < self.step }
+        requires to { self.to < NUMBERS }
+        ensures { (k : ℕ) → holds result k ≡ (holds numbers k || covers self k) }
     {
         let mut marked = numbers;
-        for number in 0..60 {
+        for number in 0..NUMBERS {
             if self.covers(number) {
                 marked |= 1 << number;
             }
@@ -48,21 +51,7 @@ impl Stretch {
     }
 }
 
-// The text before the first byte of this kind, and the text after it where there is one.
-fn cut(text: &[u8], byte: u8) -> (&[u8], Option<&[u8]>)
-    ensures before { result.0.now ≡ (cut_at byte text.now).0 }
-    ensures after { option_copied result.1 ≡ (cut_at byte text.now).1 }
-    ensures parts { parts byte text.now ≡ result.0.now ∷ parts_left byte (option_copied result.1) }
-    ensures shorter { IfSome result.1 (λ after. length after.now < length text.now) }
-{
-    for (i, b) in text.iter().enumerate() {
-        if *b == byte {
-            return (&text[..i], Some(&text[i + 1..]));
-        }
-    }
-    (text, None)
-}
-
+// The number that a decimal digit writes.
 fn digit(byte: u8) -> Option<u8>
     ensures value { result ≡ digit_of byte }
     ensures bound { IfSome result (λ digit. digit < 10) }
@@ -92,7 +81,8 @@ fn number(text: &[u8]) -> Option<u8>
 impl Limits {
     // Such a number within the limits.
     fn number(self, text: &[u8]) -> Option<u8>
-        ensures { result ≡ number_in self text.now }
+        ensures value { result ≡ number_in self text.now }
+        ensures within { IfSome result (λ number. number ≤ self.high) }
     {
         let number = number(text)?;
         if self.low <= number && number <= self.high {
@@ -104,7 +94,9 @@ impl Limits {
 
     // The numbers of `A` or `A-B`.
     fn ends(self, text: &[u8]) -> Option<(u8, Option<u8>)>
-        ensures { result ≡ ends_of self text.now }
+        ensures value { result ≡ ends_of self text.now }
+        ensures from { IfSome result (λ ends. ends.0 ≤ self.high) }
+        ensures to { IfSome result (λ ends. IfSome ends.1 (λ to. to ≤ self.high)) }
     {
         let (a, b) = cut(text, b'-');
         let from = self.number(a)?;
@@ -121,7 +113,8 @@ impl Limits {
 
     // `*/N`, `A-B/N` or `A/N`, without the step.
     fn stepped(self, head: &[u8], step: u8) -> Option<Stretch>
-        ensures { result ≡ stepped self head.now step }
+        ensures value { result ≡ stepped self head.now step }
+        ensures within { IfSome result (λ stretch. stretch.to ≤ self.high) }
     {
         if is_star(head) {
             return Some(Stretch {
@@ -142,6 +135,7 @@ impl Limits {
     fn item(self, text: &[u8]) -> Option<Stretch>
         ensures value { result ≡ item_of self text.now }
         ensures step { IfSome result (λ stretch. 0 < stretch.step) }
+        ensures within { IfSome result (λ stretch. stretch.to ≤ self.high) }
     {
         let (head, step) = cut(text, b'/');
         let Some(step) = step else {
@@ -161,10 +155,11 @@ impl Limits {
 
     // Items joined by commas, as the set of their numbers.
     fn list(self, text: &[u8]) -> Option<u64>
-        ensures none { result ≡ None → are_items self (parts comma text.now) ≡ false }
-        ensures good { IfSome result (λ _. are_items self (parts comma text.now) ≡ true) }
-        ensures numbers { IfSome result (λ numbers. (k : ℕ) → k < 60
-            → holds numbers k ≡ have self (parts comma text.now) k) }
+        requires { self.high < NUMBERS }
+        ensures none { result ≡ None → are_items self (split_at_byte comma text.now) ≡ false }
+        ensures good { IfSome result (λ _. are_items self (split_at_byte comma text.now) ≡ true) }
+        ensures numbers { IfSome result (λ numbers. (k : ℕ)
+            → holds numbers k ≡ have self (split_at_byte comma text.now) k) }
     {
         let mut numbers = 0;
         let mut left = text;
@@ -180,6 +175,7 @@ impl Limits {
 
     // A field.
     fn field(self, text: &[u8]) -> Option<Field>
+        requires { self.high < NUMBERS }
         ensures none { result ≡ None → is_field self text.now ≡ false }
         ensures some { IfSome result (λ field. IsField self text.now field) }
     {
@@ -202,6 +198,7 @@ impl Limits {
     }
 }
 
+// Whether the text is `*`.
 fn is_star(text: &[u8]) -> bool
     ensures { result ≡ is_star text.now }
 {
@@ -221,17 +218,18 @@ pub(crate) fn take_field(
     number: u8,
     rest: Option<&[u8]>,
 ) -> Result<(Field, Option<&[u8]>), CronRefused>
+    requires { limits.high < NUMBERS }
     ensures fault { MatchResult result
         (λ taken. (more : List Limits)
-        → first_fault (limits ∷ more) number (parts_left space (option_copied rest.entry))
-        ≡ first_fault more (number + 1) (parts_left space (option_copied taken.1)))
+        → first_fault (limits ∷ more) number (pieces_left space (option_copied rest.entry))
+        ≡ first_fault more (number + 1) (pieces_left space (option_copied taken.1)))
         (λ why. (more : List Limits)
-        → (first_fault (limits ∷ more) number (parts_left space (option_copied rest.entry))
+        → (first_fault (limits ∷ more) number (pieces_left space (option_copied rest.entry))
         ≡ Some number)
         × (why ≡ CronRefused.Field number)) }
     ensures ok { IfOk result (λ taken. (more : List Limits) (fields : List Field)
-        → AreFields more (parts_left space (option_copied taken.1)) fields
-        → AreFields (limits ∷ more) (parts_left space (option_copied rest.entry))
+        → AreFields more (pieces_left space (option_copied taken.1)) fields
+        → AreFields (limits ∷ more) (pieces_left space (option_copied rest.entry))
         (taken.0 ∷ fields)) }
 {
     let Some(text) = rest else {

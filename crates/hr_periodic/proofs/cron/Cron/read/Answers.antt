@@ -1,8 +1,9 @@
 -- Each field that was taken leaves the fault where it is, and the one that was not is the fault.
 use Rattle.std.proofs.Common.{[], ◌∷◌, ◌≡◌, ◌∙◌, ap, refl, sym, Err, None, option_copied}
 use Rattle.std.proofs.lemmas.Result.{err_from_is_err_and}
+use Rattle.hr_text.specs.Cutting.{pieces_left}
 use Rattle.hr_periodic.specs.declared.cron.CronRefused.TheVariants.{Field as BadField}
-use Rattle.hr_periodic.specs.Reading.{space, AreFields, first_fault, fault_of, parts_left}
+use Rattle.hr_periodic.specs.Reading.{space, AreFields, first_fault, fault_of}
 use Rattle.hr_periodic.proofs.ReadingLemmas.{refused_exit, nothing_left, seventh_left, after_1, after_2, after_3, after_4, after_5}
 use Rattle.hr_periodic.proofs.cron.Cron.read.Goals as goal
 
@@ -57,7 +58,7 @@ returns-then-is_some c =
 pub returns-clause-ok : goal.returns-clause-ok
 returns-clause-ok c =
     let nothing = nothing_left c.in_ok-weekday.rest (sym c.is_some.ensures ∙ c.if-is_some.false) in
-    let last : AreFields [] (parts_left space (option_copied c.in_ok-weekday.rest)) [] = rw nothing tt in
+    let last : AreFields [] (pieces_left space (option_copied c.in_ok-weekday.rest)) [] = rw nothing tt in
     c.in_ok-second.ensures.ok after_1 (c.in_ok-minute.minute ∷ c.in_ok-hour.hour ∷ c.in_ok-day.day ∷ c.in_ok-month.month ∷ c.in_ok-weekday.weekday ∷ []) (c.in_ok-minute.ensures.ok after_2 (c.in_ok-hour.hour ∷ c.in_ok-day.day ∷ c.in_ok-month.month ∷ c.in_ok-weekday.weekday ∷ []) (c.in_ok-hour.ensures.ok after_3 (c.in_ok-day.day ∷ c.in_ok-month.month ∷ c.in_ok-weekday.weekday ∷ []) (c.in_ok-day.ensures.ok after_4 (c.in_ok-month.month ∷ c.in_ok-weekday.weekday ∷ []) (c.in_ok-month.ensures.ok after_5 (c.in_ok-weekday.weekday ∷ []) (c.in_ok-weekday.ensures.ok [] [] (last))))))
 
 pub returns-clause-faults : goal.returns-clause-faults

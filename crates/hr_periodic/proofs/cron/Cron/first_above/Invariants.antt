@@ -1,6 +1,6 @@
 use Rattle.std.proofs.Common.{◌+◌, ◌-◌, ◌<◌}
 use Rattle.hr_periodic.specs.Steps.{NoMatch}
-use Rattle.hr_periodic.proofs.cron.Cron.next.Given as goal
+use Rattle.hr_periodic.proofs.cron.Cron.first_above.Given as goal
 
 -- no moment so far matches
 abbrev pub invariant-loop-moment : goal.invariant-loop-moment
