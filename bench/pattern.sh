@@ -1,10 +1,11 @@
 #!/bin/sh
-# How long one look at a hostile pattern and text takes. The time must grow as the product of their
-# lengths at most: the column of picoseconds for each pair of a pattern's byte and a text's byte
-# stays level or falls in each block. Usage: sh bench/pattern.sh
+# How long one look at a hostile pattern and text takes, and how much memory many patterns keep. The
+# time must grow as the product of their lengths at most: the column of picoseconds for each pair of
+# a pattern's byte and a text's byte stays level or falls in each block, and in the block of 256
+# expanded forms too. Usage: sh bench/pattern.sh
 set -eu
 . "$(dirname "$0")/scratch.sh"
-with_crates "anyhow hr_pattern" hr_base hr_pattern
+with_crates "anyhow hr_pattern" hr_base hr_text hr_pattern
 cat >"$scratch/crates/timing/src/main.rt" <<'RATTLE'
 //! Times looks at hostile patterns and texts.
 #![tactic(auto)]
@@ -78,7 +79,9 @@ fn main(rt: HostRuntime) -> Result<()> {
     grow(&rt, "run", b"*".as_slice(), b"a".as_slice(), b"b".as_slice(), b"a".as_slice())?;
     grow(&rt, "paths", b"".as_slice(), b"**/a/".as_slice(), b"**/b".as_slice(), b"a/".as_slice())?;
     grow(&rt, "block", b"**/".as_slice(), b"a/".as_slice(), b"b".as_slice(), b"a/".as_slice())?;
-    grow(&rt, "both", b"**/".as_slice(), b"*aa/".as_slice(), b"b".as_slice(), b"aaaa/".as_slice())
+    grow(&rt, "both", b"**/".as_slice(), b"*aa/".as_slice(), b"b".as_slice(), b"aaaa/".as_slice())?;
+    let pairs = b"{,b}{,b}{,b}{,b}{,b}{,b}{,b}{,b}";
+    grow(&rt, "forms", pairs.as_slice(), b"*a".as_slice(), b"*b".as_slice(), b"a".as_slice())
 }
 RATTLE
 cd "$scratch/crates/timing"
@@ -89,3 +92,41 @@ awk '
         ns = ($4 * 1000000000 + $5) / 100
         printf "%-7s %6d %6d %9d %8d %s\n", $1, $2, $3, ns, 1000 * ns / (($2 + 1) * ($3 + 1)), $6
     }' "$scratch/times"
+
+# A configuration of 1,024 policies with 16 filters each, all of the longest patterns with the most
+# expanded forms.
+cat >"$scratch/crates/timing/src/main.rt" <<'RATTLE'
+//! Keeps many hostile patterns.
+#![tactic(auto)]
+
+use anyhow::{Result, bail};
+use hr_pattern::Pattern;
+
+fn main(rt: HostRuntime) -> Result<()> {
+    let alloc = rt.alloc();
+    let mut text = Vec::new(alloc);
+    for _ in 0..8 {
+        text.extend_from_slice(b"{,b}".as_slice())?;
+    }
+    for _ in 0..496 {
+        text.extend_from_slice(b"*a".as_slice())?;
+    }
+    let mut patterns = Vec::new(alloc);
+    for _ in 0..16_384 {
+        let Ok(read) = Pattern::read(alloc, text.as_slice()) else {
+            bail!("a pattern is refused");
+        };
+        patterns.push(read)?;
+    }
+    let (count, bytes) = (patterns.len(), text.len());
+    println!(rt; "{count} patterns of {bytes} bytes")?;
+    Ok(())
+}
+RATTLE
+rt run >"$scratch/kept"
+tail -n 1 "$scratch/kept"
+python3 - out/timing <<'PYTHON'
+import resource, subprocess, sys
+subprocess.run(sys.argv[1:], check=True, stdout=subprocess.DEVNULL)
+print("kept in", resource.getrusage(resource.RUSAGE_CHILDREN).ru_maxrss // 1024, "MiB at most")
+PYTHON

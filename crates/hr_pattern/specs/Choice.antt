@@ -1,5 +1,6 @@
 -- The expanded forms of a pattern by their numbers. (Our own.)
 use Rattle.std.specs.Prelude.{ℕ, ◌/◌, ◌%◌, List, [], ◌∷◌, ◌++◌, length, drop, slice_index_or}
+use Rattle.hr_base.specs.Bytes.{Text}
 use Rattle.hr_pattern.specs.declared.item.Item.{Item}
 use Rattle.hr_pattern.specs.declared.part.Part.{Part}
 use Rattle.hr_pattern.specs.declared.part.Reading.{Reading}
@@ -7,7 +8,7 @@ use Rattle.hr_pattern.specs.Reading.{outside}
 use Rattle.hr_pattern.specs.Sign.{signs_from}
 
 -- What a text reads as from a place on.
-abbrev pub reading_from : List ℕ → ℕ → Reading
+abbrev pub reading_from : Text → ℕ → Reading
 reading_from text at = outside (signs_from at (drop at text))
 
 -- The alternatives of the first part, or none where there is no part.

@@ -1,16 +1,16 @@
 -- How a list of signs covers a list of things, in order. (Our own.)
 use Rattle.std.specs.Prelude.{◌≡◌, ℕ, Bool, List, [], ◌∷◌, drop, MatchBool}
 
--- what is left of the things behind some run of them, also none, meets this
+-- What is left of some things behind some run of them, also none, meets a fact.
 abbrev pub AfterRun : {T : Type 0} → (List T → Type 0) → List T → Type 0
 AfterRun Left things = (n : ℕ) × Left (drop n things)
 
--- the first thing meets the one fact, and what is left behind it the other
+-- The first thing meets one fact, and what is left behind it another.
 abbrev pub AfterOne : {T : Type 0} → (T → Type 0) → (List T → Type 0) → List T → Type 0
 AfterOne Meets Left [] = ⊥
 AfterOne Meets Left (thing ∷ things) = Meets thing × Left things
 
--- The signs cover the things: a sign that is a star covers any run of things, also none, and any
+-- Signs cover things: a sign that is a star covers any run of things, also none, and any
 -- other sign covers one thing that it meets.
 abbrev pub Covers : {S T : Type 0} → (S → Bool) → (S → T → Type 0) → List S → List T → Type 0
 Covers is_star Meets [] things = things ≡ []

@@ -1,12 +1,13 @@
 -- What the bytes of a pattern's text stand for. (Our own.)
 use Rattle.std.specs.Prelude.{ℕ, ◌+◌, ◌==◌, if◌then◌else◌, List, [], ◌∷◌}
+use Rattle.hr_base.specs.Bytes.{Text}
 use Rattle.hr_pattern.specs.declared.item.Item.TheVariants.{Byte, Any, One}
 use Rattle.hr_pattern.specs.declared.refusal.Why.TheVariants.{Class, Escape}
 use Rattle.hr_pattern.specs.declared.sign.Placed.{Placed}
 use Rattle.hr_pattern.specs.declared.sign.Sign.{Sign}
 use Rattle.hr_pattern.specs.declared.sign.Sign.TheVariants.{Stands, Open, Comma, Close, Wrong}
 
--- a byte with no `\` before it, other than `\`
+-- What a byte other than `\` stands for, with no `\` before it.
 abbrev pub sign_of : ℕ → Sign
 sign_of byte =
     if byte == 42 then Stands Any else
@@ -18,20 +19,20 @@ sign_of byte =
     Stands (Byte byte)
 
 abbrev mutual
-  -- the signs of a text that begins at a place
-  pub signs_from : ℕ → List ℕ → List Placed
+  -- The signs of a text that begins at a place.
+  pub signs_from : ℕ → Text → List Placed
   signs_from at [] = []
   signs_from at (byte ∷ bytes) =
       if byte == 92 then escaped_from at bytes else
       (record { at = at; sign = sign_of byte } ∷ signs_from (at + 1) bytes)
 
-  -- those of the bytes behind a `\`, which stands at a place
-  pub escaped_from : ℕ → List ℕ → List Placed
+  -- The signs of the bytes behind a `\`, which stands at a place.
+  pub escaped_from : ℕ → Text → List Placed
   escaped_from at [] = record { at = at; sign = Wrong Escape } ∷ []
   escaped_from at (byte ∷ bytes) =
       record { at = at; sign = Stands (Byte byte) } ∷ signs_from (at + 2) bytes
 
--- a text with a `\` before each byte
-abbrev pub escaped : List ℕ → List ℕ
+-- A text with a `\` before each byte.
+abbrev pub escaped : Text → Text
 escaped [] = []
 escaped (byte ∷ text) = 92 ∷ byte ∷ escaped text

@@ -1,5 +1,5 @@
 //! An expanded form of a pattern, written from the pattern's text by the form's number.
-ghost use Rattle.std.specs.Prelude.{◌≡◌, ◌<◌, ◌≤◌, ◌↔◌, ◌++◌, [], None, Any, IsTrue, length, slice_index_or};
+ghost use Rattle.std.specs.Prelude.{◌≡◌, ◌<◌, ◌≤◌, ◌↔◌, ◌++◌, ◌%◌, ◌/◌, [], None, Any, IsTrue, length, slice_index_or};
 ghost use Rattle.hr_pattern.specs.Choice.{behind_first, first_choices, form_at, reading_from};
 ghost use Rattle.hr_pattern.specs.Form.{fault_of, forms_of, reading_of, FormCovers};
 
@@ -39,9 +39,22 @@ pub fn expand(text: &[u8], number: usize, form: &mut Form)
     let mut left = number;
     while at < text.len() {
         let choices = count_choices(text, at);
-        at = push_choice(text, at, left % choices, form);
-        left /= choices;
+        let (choice, rest) = divided(left, choices);
+        at = push_choice(text, at, choice, form);
+        left = rest;
     }
+}
+
+/// The remainder and the quotient of a number. Most parts have one alternative: no division is
+/// made for them, since it would take longer than all else.
+fn divided(number: usize, by: usize) -> (usize, usize)
+    requires { 0 < by }
+    ensures { result ≡ (number % by, number / by) }
+{
+    if by == 1 {
+        return (0, number);
+    }
+    (number % by, number / by)
 }
 
 /// How many alternatives the part has that begins at a place.
@@ -75,7 +88,7 @@ fn count_choices(text: &[u8], at: usize) -> usize
 /// behind the part.
 fn push_choice(text: &[u8], at: usize, choice: usize, form: &mut Form) -> usize
     requires within { at < length text.now }
-    requires short { length text.now ≤ 1024 }
+    requires short { length text.now ≤ LIMIT }
     requires sound { (reading_from text.now at).fault ≡ None }
     requires choice { choice < length (first_choices (reading_from text.now at).parts) }
     requires room { length form.old.items ≤ at }

@@ -29,9 +29,9 @@ pub struct Pattern {
 }
 
 impl Model for Pattern {
-    ghost use Rattle.std.specs.Prelude.{List, ℕ};
+    ghost use Rattle.hr_base.specs.Bytes.{Text};
 
-    ghost Value = { List ℕ };
+    ghost Value = { Text };
 
     ghost use Rattle.hr_pattern.specs.Form.{IsRead};
 

@@ -3,6 +3,7 @@ ghost use Rattle.std.specs.Prelude.{◌≡◌, ◌<◌, ◌≤◌, ◌∷◌, le
 ghost use Rattle.hr_pattern.specs.Sign.{sign_of, signs_from};
 
 use crate::item::Item;
+use crate::pattern::LIMIT;
 use crate::refusal::Why;
 use hr_base::{List, Memory};
 use std::alloc::Global;
@@ -31,7 +32,7 @@ pub struct Placed {
 
 /// The signs of a text, in order.
 pub fn signs_of(alloc: Global, text: &[u8]) -> Result<List<Placed>, Memory>
-    requires { length text.now ≤ 1024 }
+    requires { length text.now ≤ LIMIT }
     ensures { IfOk result (λ signs. signs ≡ signs_from 0 text.now) }
 {
     let mut signs = List::new(alloc);
