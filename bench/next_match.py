@@ -10,7 +10,7 @@ import subprocess
 import tempfile
 import time
 
-CRATES = ["hr_base", "hr_periodic"]
+CRATES = ["hr_base", "hr_text", "hr_periodic"]
 SCHEDULES = [
     ("every second", "* * * * * *", 4_000_000),
     ("hourly", "0 0 * * * *", 4_000_000),

@@ -28,7 +28,7 @@ pub fn covers_bytes(items: &[Item], bytes: &[u8]) -> bool
     left.is_empty()
 }
 
-/// Whether the items cover some end of the bytes.
+// Whether the items cover some end of the bytes.
 fn covers_some_end(items: &[Item], bytes: &[u8]) -> bool
     ensures { IsTrue result ↔ AfterRun (CoversBytes items.now) bytes.now }
 {
@@ -57,7 +57,7 @@ fn covers_some_end(items: &[Item], bytes: &[u8]) -> bool
     covers_nothing(asked)
 }
 
-/// Whether the items cover no bytes: each of them covers any run.
+// Whether the items cover no bytes: each of them covers any run.
 fn covers_nothing(items: &[Item]) -> bool
     ensures { IsTrue result ↔ CoversBytes items.now [] }
 {

@@ -45,8 +45,8 @@ pub fn expand(text: &[u8], number: usize, form: &mut Form)
     }
 }
 
-/// The remainder and the quotient of a number. Most parts have one alternative: no division is
-/// made for them, since it would take longer than all else.
+// The remainder and the quotient of a number. Most parts have one alternative: no division is
+// made for them, since it would take longer than all else.
 fn divided(number: usize, by: usize) -> (usize, usize)
     requires { 0 < by }
     ensures { result ≡ (number % by, number / by) }
@@ -57,7 +57,7 @@ fn divided(number: usize, by: usize) -> (usize, usize)
     (number % by, number / by)
 }
 
-/// How many alternatives the part has that begins at a place.
+// How many alternatives the part has that begins at a place.
 fn count_choices(text: &[u8], at: usize) -> usize
     requires within { at < length text.now }
     requires sound { (reading_from text.now at).fault ≡ None }
@@ -84,8 +84,8 @@ fn count_choices(text: &[u8], at: usize) -> usize
     unreachable!()
 }
 
-/// Puts one alternative of the part that begins at a place behind a form, and answers the place
-/// behind the part.
+// Puts one alternative of the part that begins at a place behind a form, and answers the place
+// behind the part.
 fn push_choice(text: &[u8], at: usize, choice: usize, form: &mut Form) -> usize
     requires within { at < length text.now }
     requires short { length text.now ≤ LIMIT }

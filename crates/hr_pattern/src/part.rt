@@ -49,7 +49,7 @@ pub fn read_parts(alloc: Global, signs: &[Placed]) -> Result<Reading, Memory>
     Ok(Reading { parts, fault: None })
 }
 
-/// The part that begins with a sign, and the signs behind it.
+// The part that begins with a sign, and the signs behind it.
 fn read_part(
     alloc: Global,
     placed: Placed,
@@ -76,7 +76,7 @@ fn read_part(
     }
 }
 
-/// The part of one item.
+// The part of one item.
 fn lone(alloc: Global, at: u32, item: Item) -> Result<Part, Memory>
     ensures { IfOk result (λ part. part ≡ record { at = at; choices = (item ∷ []) ∷ [] }) }
 {
@@ -87,7 +87,7 @@ fn lone(alloc: Global, at: u32, item: Item) -> Result<Part, Memory>
     Ok(Part { at, choices })
 }
 
-/// The alternatives of a group whose `{` stands at `brace`, and the signs behind its `}`.
+// The alternatives of a group whose `{` stands at `brace`, and the signs behind its `}`.
 fn read_group(
     alloc: Global,
     brace: u32,

@@ -31,7 +31,7 @@ pub fn covers(form: &[Item], text: &[u8]) -> bool
     left.split_first().is_none()
 }
 
-/// Whether the components of a form cover some end of those of a text.
+// Whether the components of a form cover some end of those of a text.
 fn covers_some_end(form: &Components<'_, Item>, text: &Components<'_, u8>) -> bool
     ensures { IsTrue result ↔ AfterRun (CoversPath form.now) text.now }
 {
@@ -60,7 +60,7 @@ fn covers_some_end(form: &Components<'_, Item>, text: &Components<'_, u8>) -> bo
     covers_nothing(&asked)
 }
 
-/// Whether the components of a form cover no components: each of them is `**`.
+// Whether the components of a form cover no components: each of them is `**`.
 fn covers_nothing(form: &Components<'_, Item>) -> bool
     ensures { IsTrue result ↔ CoversPath form.now [] }
 {
@@ -74,7 +74,7 @@ fn covers_nothing(form: &Components<'_, Item>) -> bool
     true
 }
 
-/// Whether a component covers any number of components: it is `**` and no more.
+// Whether a component covers any number of components: it is `**` and no more.
 fn is_any_path(items: &[Item]) -> bool
     ensures { result ≡ is_any_path items.now }
 {

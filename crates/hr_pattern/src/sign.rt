@@ -65,7 +65,7 @@ pub fn sign_at(text: &[u8], at: usize) -> (Sign, usize)
     (Sign::Stands(Item::Byte(text[at + 1])), at + 2)
 }
 
-/// What a byte other than `\` stands for.
+// What a byte other than `\` stands for.
 fn sign_of(byte: u8) -> Sign
     ensures { result ≡ sign_of byte }
 {

@@ -65,7 +65,7 @@ pub fn forms(
     })
 }
 
-/// Each front with each back behind it.
+// Each front with each back behind it.
 fn product(
     alloc: Global,
     fronts: &[Vec<Unit>],
@@ -80,7 +80,7 @@ fn product(
     Ok(all)
 }
 
-/// Each front with the units behind it.
+// Each front with the units behind it.
 fn longer(
     alloc: Global,
     fronts: &[Vec<Unit>],
@@ -95,7 +95,7 @@ fn longer(
     Ok(all)
 }
 
-/// Whether the components cover the parts, by trying each number of parts for a `**`.
+// Whether the components cover the parts, by trying each number of parts for a `**`.
 fn path(form: &[&[Unit]], parts: &[&[u8]]) -> bool {
     let Some((first, later)) = form.split_first() else {
         return parts.is_empty();
@@ -114,7 +114,7 @@ fn path(form: &[&[Unit]], parts: &[&[u8]]) -> bool {
     }
 }
 
-/// Whether the units cover the bytes, by trying each number of bytes for a `*`.
+// Whether the units cover the bytes, by trying each number of bytes for a `*`.
 fn bytes(units: &[Unit], text: &[u8]) -> bool {
     let Some((first, later)) = units.split_first() else {
         return text.is_empty();

@@ -109,7 +109,7 @@ fn short_patterns_fit_and_are_refused_as_the_slow_program_says(
     Ok(())
 }
 
-/// Compares a pattern's refusal, or its fit on each name, with the slow program.
+// Compares a pattern's refusal, or its fit on each name, with the slow program.
 fn compare(rt: &impl Abort, alloc: Global, pattern: &[u8], names: &[Vec<u8>]) -> Result<(), Fail> {
     let read = Pattern::read(alloc, pattern);
     let forms = match slow::forms(alloc, pattern)? {
@@ -128,7 +128,7 @@ fn compare(rt: &impl Abort, alloc: Global, pattern: &[u8], names: &[Vec<u8>]) ->
     Ok(())
 }
 
-/// Each text of at most so many of these letters.
+// Each text of at most so many of these letters.
 fn texts(alloc: Global, letters: &[u8], longest: usize) -> Result<Vec<Vec<u8>>, Fail> {
     let mut all = vec![in alloc; Vec::new(alloc)]?;
     let mut level = vec![in alloc; Vec::new(alloc)]?;
