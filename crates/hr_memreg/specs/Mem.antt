@@ -40,11 +40,11 @@ abbrev pub after_change : Mem → Content → Mem
 after_change m c = record m { content = c; ever = m.ever ++ rows_shown c }
 
 -- a registry after a manifest was stored under its digest
-abbrev pub alone_as : Fetched → RepoName → Mem → Mem
-alone_as manifest repo m = after_change m (with_manifest m.content repo (digest_of manifest.bytes) manifest)
+abbrev pub after_manifest : Fetched → RepoName → Mem → Mem
+after_manifest manifest repo m = after_change m (with_manifest m.content repo (digest_of manifest.bytes) manifest)
 
 -- a registry after a manifest was stored under its digest, and a tag moved to it
-abbrev pub shown_as : TagName → Fetched → RepoName → Mem → Mem
-shown_as tag manifest repo m =
-    let stored = alone_as manifest repo m in
+abbrev pub after_tagged : TagName → Fetched → RepoName → Mem → Mem
+after_tagged tag manifest repo m =
+    let stored = after_manifest manifest repo m in
     after_change stored (with_tag stored.content repo tag (digest_of manifest.bytes))

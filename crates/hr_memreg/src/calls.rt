@@ -91,7 +91,7 @@ impl Registry for MemRegistry {
             bytes: Bytes::of(self.alloc, bytes)?,
         };
         match reference {
-            Reference::Tag(tag) => self.show(repo, tag, manifest)?,
+            Reference::Tag(tag) => self.put_tagged(repo, tag, manifest)?,
             Reference::Digest(digest) => self.hold_manifest(repo, *digest, manifest)?,
         }
         Ok(())

@@ -92,7 +92,7 @@ impl Held {
     {
         let mut shown = List::new(alloc);
         for (name, repository) in self.repos.iter() {
-            repository.show(alloc, name, &mut shown)?;
+            repository.push_tags(alloc, name, &mut shown)?;
         }
         Ok(shown)
     }
@@ -126,7 +126,7 @@ impl Repository {
     }
 
     // Puts all tags at the end of a list, with what they name.
-    fn show(&self, alloc: Global, name: &Name, shown: &mut List<TagNow>) -> Result<(), Memory>
+    fn push_tags(&self, alloc: Global, name: &Name, shown: &mut List<TagNow>) -> Result<(), Memory>
         ensures ok { OnOk result (shown.new ≡ shown.old ++ map (tag_now name.now) self.now.tags) }
     {
         for (tag, named) in self.tags.iter() {

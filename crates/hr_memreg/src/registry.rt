@@ -4,7 +4,7 @@ ghost use Rattle.std.specs.Option.{option_copied};
 ghost use Rattle.hr_adapter.specs.Content.{manifest_at, tag_at, with_blob, with_manifest, with_repo, with_tag};
 ghost use Rattle.hr_adapter.specs.Reg.{IsSound};
 ghost use Rattle.hr_memreg.specs.Listed.{content_of, lines_of};
-ghost use Rattle.hr_memreg.specs.Mem.{after_change, after_operation, alone_as, empty_mem, new_mem, seen_of, shown_as};
+ghost use Rattle.hr_memreg.specs.Mem.{after_change, after_operation, after_manifest, empty_mem, new_mem, seen_of, after_tagged};
 
 use crate::Content;
 use crate::held::Held;
@@ -16,9 +16,6 @@ use hr_name::{Name, Tag};
 use std::alloc::Global;
 use std::marker::Model;
 
-#[cfg(test)]
-mod tests;
-
 /// A registry in memory. It counts its operations, from 1 to `2^64 - 1`, where they stay.
 #[derive(Drop)]
 pub struct MemRegistry {
@@ -28,6 +25,11 @@ pub struct MemRegistry {
     operations: u64,
     faults: u64,
 }
+
+// A registry in memory may stand behind a lock, or go to another thread.
+trait Movable: Send {}
+
+impl Movable for MemRegistry {}
 
 impl Model for MemRegistry {
     ghost use Rattle.hr_adapter.specs.Reg.{AreShown};
@@ -153,10 +155,15 @@ impl MemRegistry {
     }
 
     /// Stores a manifest under its digest, and makes a tag name it.
-    pub(crate) fn show(&mut self, repo: &Name, tag: &Tag, manifest: Fetched) -> Result<(), Memory>
-        ensures ok { OnOk result (self.new ≡ shown_as tag.now manifest repo.now self.old) }
+    pub(crate) fn put_tagged(
+        &mut self,
+        repo: &Name,
+        tag: &Tag,
+        manifest: Fetched,
+    ) -> Result<(), Memory>
+        ensures ok { OnOk result (self.new ≡ after_tagged tag.now manifest repo.now self.old) }
         ensures err { OnErr result ((self.new ≡ self.old)
-            ⊎ (self.new ≡ alone_as manifest repo.now self.old)) }
+            ⊎ (self.new ≡ after_manifest manifest repo.now self.old)) }
         ensures sound { IsSound (seen_of self.new) }
     {
         let tag = tag.copy(self.alloc)?;
