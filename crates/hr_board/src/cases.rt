@@ -23,6 +23,20 @@ pub enum Act {
     Look { job: u32, rev: u8 },
 }
 
+impl Act {
+    /// The job and the revision that it is about; of a stop, the last attempt.
+    pub fn place(self) -> (u32, u8) {
+        match self {
+            Act::Open { job, rev } => (job, rev),
+            Act::Begin { job, rev } => (job, rev),
+            Act::Succeed { job, rev } => (job, rev),
+            Act::Fail { job, rev } => (job, rev),
+            Act::Stop { job, attempts } => (job, attempts.saturating_sub(1)),
+            Act::Look { job, rev } => (job, rev),
+        }
+    }
+}
+
 /// What came of an act.
 #[derive(Clone, Copy, Debug, PartialEq, Eq)]
 pub enum Told {
@@ -47,6 +61,7 @@ pub fn open<B: Board>(board: &mut B, job: JobNo, rev: u8) -> Told
     requires job { (1 ≤ job.0) × (job.0 ≤ (B.seen board.old).jobs) }
     requires rev { rev ≤ 3 }
     requires role { ServesQueue (B.seen board.old) }
+    ensures same { B.same board.old board.new }
 {
     if rev == 0 {
         return of_move(board.advance(job, 0, Mark::Unopened, Mark::At(Status::Pending)));
@@ -67,6 +82,7 @@ pub fn begin<B: Board>(board: &mut B, job: JobNo, rev: u8) -> Told
     requires job { (1 ≤ job.0) × (job.0 ≤ (B.seen board.old).jobs) }
     requires rev { rev ≤ 3 }
     requires role { ServesLane (B.seen board.old) }
+    ensures same { B.same board.old board.new }
 {
     let running = Mark::At(Status::Running);
     match board.look(job, rev) {
@@ -86,6 +102,7 @@ pub fn end<B: Board>(board: &mut B, job: JobNo, rev: u8, status: Status) -> Told
     requires rev { rev ≤ 3 }
     requires role { ServesLane (B.seen board.old) }
     requires status { (status ≡ Status.Success) ⊎ (status ≡ Status.Error) }
+    ensures same { B.same board.old board.new }
 {
     of_move(board.advance(job, rev, Mark::At(Status::Running), Mark::At(status)))
 }

@@ -45,18 +45,6 @@ impl Board for RoleBoard {
     }
 }
 
-// The job and the revision of an act; of a stop, its last attempt.
-fn place_of(act: Act) -> (u32, u8) {
-    match act {
-        Act::Open { job, rev } => (job, rev),
-        Act::Begin { job, rev } => (job, rev),
-        Act::Succeed { job, rev } => (job, rev),
-        Act::Fail { job, rev } => (job, rev),
-        Act::Stop { job, attempts } => (job, attempts.saturating_sub(1)),
-        Act::Look { job, rev } => (job, rev),
-    }
-}
-
 impl RoleBoard {
     // Makes it the board of a user that moves to these words.
     fn serve(&mut self, one: u64, two: u64, three: u64)
@@ -71,7 +59,7 @@ impl RoleBoard {
 
 impl Desk for RoleBoard {
     fn act(&mut self, act: Act) -> Told {
-        let (job, rev) = place_of(act);
+        let (job, rev) = act.place();
         if job == 0 || job > self.jobs() || rev > 3 {
             return Told::Outside;
         }

@@ -1,6 +1,6 @@
 -- The rule of a shared board: what holds of its words and of all its seats between any two atomic
 -- steps, and what a step tells its seat. (Our own.)
-use Rattle.std.specs.Prelude.{◌≡◌, ℕ, ◌+◌, ◌≤◌, List, [], ◌∷◌, length, slice_index, IsTrue, nat_eq, if◌then◌else◌, flat_map}
+use Rattle.std.specs.Prelude.{◌≡◌, ℕ, ◌+◌, ◌*◌, ◌≤◌, List, [], ◌∷◌, length, slice_index, IsTrue, nat_eq, if◌then◌else◌, flat_map}
 use Rattle.std.specs.List.{Contains}
 use mathlib.Core.Option.{some}
 use lib.ListN.{get_elem?}
@@ -9,7 +9,7 @@ use Rattle.hr_board.specs.Moves.{Below}
 use Rattle.hr_board.specs.Past.{Past}
 use Rattle.hr_board.specs.Plain.{IsLawful}
 use Rattle.hr_board.specs.View.{Word, Noted}
-use Rattle.hr_ruled.specs.Seats.{role_allows, plain_finals, seat_saw, seat_moved}
+use Rattle.hr_ruled.specs.Seats.{role_allows, plain_finals, past_of_seat, seat_saw, seat_moved}
 use Rattle.hr_ruled.specs.declared.limit.TheConstants.{ALL_PARTS}
 use Rattle.hr_ruled.specs.declared.rule.FinalMove.{FinalMove}
 use Rattle.hr_ruled.specs.declared.rule.Role.TheVariants.{Reader}
@@ -45,6 +45,21 @@ pub record IsRuled (count : ℕ) (words : List Word) (seats : List SeatView) : T
   pub lawful : IsLawful words (together seats)
   pub parts : parts_of seats ≡ ALL_PARTS
   pub each : (id : ℕ) (seat : SeatView) → get_elem? seats id ≡ some seat → IsSeat seat
+
+-- what the seat that has all parts knows of the words of so many jobs, at the end: all that was moved
+pub record IsClosed (jobs : ℕ) (words : List Word) (seat : SeatView) : Type 0 where
+  -- four words for each job
+  pub whole : length words ≡ 4 * jobs
+  -- each final word stands once among the seat's own final moves, and no other place does; so do the
+  -- words that were opened among its opens
+  pub lawful : IsLawful words (past_of_seat seat)
+  -- each of these final moves was allowed to the role under which it was made
+  pub allowed : IsSeat seat
+
+-- the words of so many jobs, at the end, are those that some seat knows that has all parts
+pub record HasClosed (jobs : ℕ) (words : List Word) : Type 0 where
+  pub seat : SeatView
+  pub closed : IsClosed jobs words seat
 
 -- each earlier note of the step's seat at its place is below the word that it found
 abbrev pub IsAbove : Step ℕ → Me ℕ SeatView → Word → Type 0

@@ -2,6 +2,7 @@
 //! a lock, each by its own leave. Start with `opened`.
 #![tactic(auto)]
 
+pub mod cases;
 mod held;
 mod limit;
 mod naming;
@@ -9,6 +10,8 @@ mod opened;
 mod rule;
 mod seat;
 mod shared;
+#[cfg(test)]
+mod tests;
 
 pub use held::Held;
 pub use limit::{ALL_PARTS, JOB_LIMIT};

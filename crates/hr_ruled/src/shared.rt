@@ -1,8 +1,7 @@
 //! The words that threads share, and what a seat does with them.
-ghost use Rattle.std.specs.Prelude.{◌≡◌, ◌≢◌, ◌*◌, ◌<◌, ◌≤◌, [], IsTrue, IfErr, IfOk, OnOk, length};
+ghost use Rattle.std.specs.Prelude.{◌≡◌, ◌≢◌, ◌*◌, ◌<◌, ◌≤◌, [], IsTrue, IfErr, IfOk, OnOk};
 ghost use Rattle.hr_base.specs.Status.{word_of};
 ghost use Rattle.hr_board.specs.Moves.{IsMove};
-ghost use Rattle.hr_board.specs.Plain.{IsLawful};
 ghost use Rattle.hr_board.specs.View.{place_of, Finds, OpensAfterError};
 
 use crate::held::Held;
@@ -40,7 +39,8 @@ impl<N: Naming> Model for SharedBoard<N> {
 }
 
 impl<N: Naming> SharedBoard<N> {
-    ghost use Rattle.hr_ruled.specs.Seats.{view_of_seat, past_of_seat, seat_saw, seat_moved, seat_left, seat_given, seats_joined, part_of_role};
+    ghost use Rattle.hr_ruled.specs.Rule.{IsClosed};
+    ghost use Rattle.hr_ruled.specs.Seats.{view_of_seat, seat_saw, seat_moved, seat_left, seat_given, seats_joined, part_of_role};
 
     // The board over a table of words.
     pub(crate) fn of(
@@ -103,12 +103,10 @@ impl<N: Naming> SharedBoard<N> {
             .join_seat::<SeatJoin>(&mut into.seat, seat.into_seat());
     }
 
-    /// The words by place, at the end. The seat that has all parts knows all moves: each final word
-    /// stands once among its own final moves, and nothing else does.
+    /// The words by place, at the end. The seat that has all parts knows all moves.
     pub fn close(self, alloc: Global, seat: BoardSeat<N>) -> Result<List<u64>, Memory>
         requires { seat.parts ≡ ALL_PARTS }
-        ensures whole { IfOk result (λ words. length words ≡ 4 * self) }
-        ensures lawful { IfOk result (λ words. IsLawful words (past_of_seat seat)) }
+        ensures { IfOk result (λ words. IsClosed self words seat) }
     {
         let SharedBoard { table, jobs, of: _ } = self;
         let count = 4 * jobs as usize;

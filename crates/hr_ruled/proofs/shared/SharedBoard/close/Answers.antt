@@ -10,10 +10,10 @@ loop-at-preserved g c =
       omega (arith, i.2, c.push_reserved.ensures),
     )
 
-pub returns-clause-lawful : goal.returns-clause-lawful
-returns-clause-lawful g c =
+pub returns : goal.returns
+returns g c =
     let f = c.close_with-closed.ensures.values.2 in
     let me = c.into_seat.ensures.1 in
     let i = c.loop-at.invariant in
-    closed c.self.inside.table.shared.key c.loop-at.at c.into_seat.result.id f.0.words _ c.from.result f.0.views
-    c.into_seat.result.me.0 c.args.seat f.1.0 f.1.1 (ap (λ m. m.0) me) c.requires f.2 (c.from.ensures ∙ i.0) (omega arith)
+    closed c.args.self c.self.inside.table.shared.key c.loop-at.at c.into_seat.result.id f.0.words _ c.from.result f.0.views
+    c.into_seat.result.me.0 c.args.seat f.1.0 f.1.1 (ap (λ m. m.0) me) c.requires f.2 (c.from.ensures ∙ i.0) (omega arith) (omega (arith, c.self.view_is, c.self.invariant.3))
