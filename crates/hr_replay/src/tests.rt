@@ -7,7 +7,7 @@ use std::test::Fail;
 
 // What a script gives, or the text by which it is refused.
 fn run(alloc: Global, script: &[u8]) -> Result<Result<Replayed, Bytes>, Fail> {
-    if script.len() > 1_048_576 {
+    if script.len() > SCRIPT_LIMIT {
         return Err("the script is too long".into());
     }
     match replay(alloc, script) {

@@ -2,7 +2,8 @@
 ghost use Rattle.std.specs.Prelude.{◌≡◌, ◌≤◌, ◌↔◌, ◌⊎◌, IsTrue, List, Option, ℕ, length};
 ghost use Rattle.hr_cause.specs.Stream.{Rose};
 ghost use Rattle.hr_top.specs.Answers.{memory_text};
-ghost use Rattle.hr_top.specs.Input.{WasRead, script_limit};
+ghost use Rattle.hr_script.specs.declared.reading.TheConstants.{SCRIPT_LIMIT};
+ghost use Rattle.hr_top.specs.Input.{WasRead};
 ghost use Rattle.hr_top.specs.Outcome.{Comes};
 ghost use Rattle.hr_top.specs.Command.{IsAny, IsFaulted, IsNothing, IsRefused, IsReplay, IsStatus, IsUsage, Replayed as IsReplayed, Sent, SentFront, TookFront};
 
@@ -117,7 +118,7 @@ fn is_replay(words: &[Bytes]) -> bool
 
 // Runs a script.
 fn replay_script(alloc: Global, bytes: &[u8], kept: &mut Ending) -> Outcome
-    requires short { length bytes.now ≤ script_limit }
+    requires short { length bytes.now ≤ SCRIPT_LIMIT }
     requires nothing { IsNothing kept.old }
     ensures { (words : List (List ℕ)) (before now : Option (List ℕ)) (faults : ℕ) → IsReplay words
         → WasRead before bytes.now now → Comes result words before now faults faults kept.new }
