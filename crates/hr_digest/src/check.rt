@@ -8,7 +8,7 @@ use std::marker::Model;
 
 /// A digest in the making, which contracts see as the list of all the bytes that it was fed. It
 /// takes no memory, however many they are. (The algorithm is SHA-256, FIPS 180-4, section 6.2.)
-#[derive(Drop)]
+#[derive(Debug, Drop)]
 pub struct Check {
     hasher: Sha256,
     fed: Trace<u8>,

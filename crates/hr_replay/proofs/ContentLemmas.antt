@@ -2,12 +2,12 @@
 use Rattle.std.proofs.Common.{◌≡◌, ◌-◌, ℕ, zero, suc, List, [], ◌∷◌, Option, Some, None, option_map, IfSome, IsSome, slice_get, slice_set, Result, Ok, Err, inl, inr, refl, sym, subst}
 use Rattle.std.specs.Option.{unwrap_or}
 use Rattle.std.specs.List.{AllByRecursion}
-use Rattle.std.proofs.lemmas.List.Sums.{AllPass-from_list_all}
 use Rattle.hr_digest.specs.Digest.{digest_of}
 use Rattle.hr_digest.specs.declared.digest.Digest.{Digest}
 use Rattle.hr_event.specs.declared.reference.Fetched.{Fetched}
 use Rattle.hr_manifest.specs.Canonical.{image_media, image_text, index_media, index_text}
-use Rattle.hr_manifest.specs.Writable.{IsPlain, is_unescaped}
+use Rattle.hr_text.specs.Escaping.{IsUnescaped}
+use Rattle.hr_text.proofs.EscapeLaws.{unescaped_text}
 use Rattle.hr_manifest.specs.declared.child.Child.{Child}
 use Rattle.hr_adapter.specs.Content.{Content, blob_at, manifest_at, named_at, repo_at, tag_at, with_blob, with_tag}
 use Rattle.hr_adapter.proofs.ContentLaws.{manifest_at-with_blob, manifest_at-with_manifest-cases, manifest_at-with_manifest-same, manifest_at-with_tag}
@@ -46,28 +46,28 @@ empty_well = record {
     manifests = λ repo d. if_none (λ m. digest_of m.bytes ≡ d) (manifest_at [] repo d) (no_manifest repo d);
     tags = λ repo tag. if_none (λ d. IsSome (manifest_at [] repo d)) (tag_at [] repo tag) (no_tag repo tag);
   };
-  plain = λ repo d. if_none (λ m. IsPlain m.media) (manifest_at [] repo d) (no_manifest repo d);
+  plain = λ repo d. if_none (λ m. IsUnescaped m.media) (manifest_at [] repo d) (no_manifest repo d);
 }
 
 blob_well : (c : Content) (repo bytes : List ℕ) → IsWell c → IsWell (with_blob c repo (digest_of bytes) bytes)
 blob_well c repo bytes well = record {
   honest = Honest-with_blob c repo (digest_of bytes) bytes refl well.honest;
-  plain = λ q e. if_same (λ m. IsPlain m.media) (manifest_at (with_blob c repo (digest_of bytes) bytes) q e) (manifest_at c q e)
+  plain = λ q e. if_same (λ m. IsUnescaped m.media) (manifest_at (with_blob c repo (digest_of bytes) bytes) q e) (manifest_at c q e)
       (manifest_at-with_blob c repo (digest_of bytes) bytes q e) (well.plain q e);
 }
 
-stored_well : (c : Content) (repo media bytes : List ℕ) → IsPlain media → IsWell c → IsWell (with_stored repo media bytes c)
+stored_well : (c : Content) (repo media bytes : List ℕ) → IsUnescaped media → IsWell c → IsWell (with_stored repo media bytes c)
 stored_well c repo media bytes plain well =
     let m : Fetched = record { media = media; bytes = bytes } in
     record {
       honest = Honest-with_manifest c repo (digest_of bytes) m refl well.honest;
       plain = λ q e. elim (manifest_at-with_manifest-cases c repo (digest_of bytes) m q e) [
-        | inl at ↦ if_same (λ m. IsPlain m.media) (manifest_at (with_stored repo media bytes c) q e) (Some m) at.2 plain
-        | inr same ↦ if_same (λ m. IsPlain m.media) (manifest_at (with_stored repo media bytes c) q e) (manifest_at c q e) same (well.plain q e)
+        | inl at ↦ if_same (λ m. IsUnescaped m.media) (manifest_at (with_stored repo media bytes c) q e) (Some m) at.2 plain
+        | inr same ↦ if_same (λ m. IsUnescaped m.media) (manifest_at (with_stored repo media bytes c) q e) (manifest_at c q e) same (well.plain q e)
       ];
     }
 
-tagged_well : (c : Content) (repo tag media bytes : List ℕ) → IsPlain media → IsWell c → IsWell (with_tagged repo tag media bytes c)
+tagged_well : (c : Content) (repo tag media bytes : List ℕ) → IsUnescaped media → IsWell c → IsWell (with_tagged repo tag media bytes c)
 tagged_well c repo tag media bytes plain well =
     let m : Fetched = record { media = media; bytes = bytes } in
     let d = digest_of bytes in
@@ -75,7 +75,7 @@ tagged_well c repo tag media bytes plain well =
     let stored = stored_well c repo media bytes plain well in
     record {
       honest = Honest-with_tag held repo tag d (subst (λ (t : Option Fetched). IsSome t) (sym (manifest_at-with_manifest-same c repo d m)) refl) stored.honest;
-      plain = λ q e. if_same (λ m. IsPlain m.media) (manifest_at (with_tag held repo tag d) q e) (manifest_at held q e)
+      plain = λ q e. if_same (λ m. IsUnescaped m.media) (manifest_at (with_tag held repo tag d) q e) (manifest_at held q e)
           (manifest_at-with_tag held repo tag d q e) (stored.plain q e);
     }
 
@@ -84,11 +84,11 @@ blobs_well c repo [] well = well
 blobs_well c repo (bytes ∷ blobs) well =
     blobs_well (with_blob c repo (digest_of bytes) bytes) repo blobs (blob_well c repo bytes well)
 
-image_plain : IsPlain image_media
-image_plain = AllPass-from_list_all is_unescaped image_media refl
+image_plain : IsUnescaped image_media
+image_plain = unescaped_text image_media refl
 
-index_plain : IsPlain index_media
-index_plain = AllPass-from_list_all is_unescaped index_media refl
+index_plain : IsUnescaped index_media
+index_plain = unescaped_text index_media refl
 
 image_well : (c : Content) (repo tag : List ℕ) (layers : List (List ℕ)) → IsWell c → IsWell (with_image repo tag layers c)
 image_well c repo tag layers well =

@@ -1,49 +1,31 @@
 -- Lines that were read name registries that are there, and media types that can be written.
-use Rattle.std.proofs.Common.{◌≡◌, ◌+◌, ℕ, Bool, true, false, ◌&&◌, ◌||◌, List, [], ◌∷◌, ◌++◌, Option, Some, None, Result, Ok, Err, refl, sym, ap, subst, arith}
-use Rattle.std.specs.List.{AllByRecursion, list_all, list_any}
-use Rattle.std.proofs.lemmas.Bool.Decides.{nat_tests}
-use Rattle.std.proofs.lemmas.List.Sums.{AllPass-from_list_all}
+use Rattle.std.proofs.Common.{◌≡◌, ◌+◌, ℕ, Bool, true, false, List, [], ◌∷◌, ◌++◌, Option, Some, None, Result, Ok, Err, sym, ap, subst}
+use Rattle.std.specs.List.{AllByRecursion}
 use Rattle.hr_base.specs.declared.number.RegNo.{RegNo}
 use Rattle.hr_event.specs.declared.event.Event.{Event}
 use Rattle.hr_event.specs.declared.event.Event.TheVariants as event
-use Rattle.hr_manifest.specs.Writable.{IsPlain, is_unescaped}
-use Rattle.hr_script.specs.Line.{finish_of, image_of, index_of, is_event, line_meaning, manifest_of, meaning_of, orphan_of, tags_of, trigger_of, where_read}
+use Rattle.hr_text.specs.Escaping.{IsUnescaped}
+use Rattle.hr_script.specs.Line.{finish_of, image_of, index_of, line_meaning, manifest_of, meaning_of, orphan_of, tags_of, trigger_of, where_read}
 use Rattle.hr_script.specs.Meaning.{Follows, Meaning, each, gives, ◌>>=◌}
+use Rattle.hr_script.specs.Progress.{at_start, progress_after}
 use Rattle.hr_script.specs.Reading.{AreRead, GoesOn, IsReading}
 use Rattle.hr_script.specs.Text.{is_read, lines_of, words_of}
-use Rattle.hr_script.specs.Word.{IsMedia, IsRegistry, is_escaped, layer_in, media_in, name_in, policy_in, registry_in, tag_in}
+use Rattle.hr_script.specs.Word.{IsMedia, IsRegistry, layer_in, media_in, name_in, policy_in, registry_in, tag_in}
 use Rattle.hr_script.specs.declared.line.Line.{Line}
 use Rattle.hr_script.specs.declared.line.Line.TheVariants as line
+use Rattle.hr_script.specs.declared.progress.Progress.{Progress}
 use Rattle.hr_script.specs.declared.reading.Lines.{Lines}
 use Rattle.hr_script.specs.declared.reading.Numbered.{Numbered}
 use Rattle.hr_script.specs.declared.refusal.Why.{Why}
-use Rattle.hr_script.proofs.CaseLemmas.{OfEachKind, line_cases, through}
+use Rattle.hr_script.proofs.CaseLaws.{OfEachKind, line_cases, through}
 use Rattle.hr_replay.specs.Fit.{IsFit, IsNumbered, IsScripted}
 use Rattle.hr_replay.specs.Opening.{event_in, events_in}
 use Rattle.hr_replay.proofs.ContentLemmas.{AreFit}
 
 -- ---- media types
 
-byte_plain : (b : ℕ) → is_escaped b ≡ false → is_unescaped b ≡ true
-byte_plain b h = grind (arith, nat_tests)
-
-neither : (a b : Bool) → (a || b) ≡ false → (a ≡ false) × (b ≡ false)
-neither true b h = cc h
-neither false b h = (refl, h)
-
-both : (a b : Bool) → a ≡ true → b ≡ true → (a && b) ≡ true
-both true b p q = q
-both false b p q = cc p
-
-bytes_plain : (word : List ℕ) → list_any is_escaped word ≡ false → list_all is_unescaped word ≡ true
-bytes_plain [] h = refl
-bytes_plain (b ∷ word) h =
-    let parts = neither (is_escaped b) (list_any is_escaped word) h in
-    both (is_unescaped b) (list_all is_unescaped word) (byte_plain b parts.0) (bytes_plain word parts.1)
-
-media_plain : (word media : List ℕ) → IsMedia word media → IsPlain media
-media_plain word media is =
-    subst (λ (bytes : List ℕ). IsPlain bytes) (sym is.same) (AllPass-from_list_all is_unescaped word (bytes_plain word is.plain))
+media_plain : (word media : List ℕ) → IsMedia word media → IsUnescaped media
+media_plain word media is = subst (λ (bytes : List ℕ). IsUnescaped bytes) (sym is.same) is.unescaped
 
 numbered : (word : List ℕ) (reg : RegNo) → IsRegistry word reg → IsNumbered reg
 numbered word reg is = record { some = is.some; few = is.few }
@@ -134,25 +116,25 @@ read_fit : (read : Bool) (meaning : Meaning (Option Line)) → ((m : Result (Opt
 read_fit true meaning fit m is = fit m is
 read_fit false meaning fit m is = subst FitOrNone (sym is) tt
 
-line_fit : (after : Bool) (text : List ℕ) (m : Result (Option Line) Why) → line_meaning after text m → FitOrNone m
-line_fit after text m is =
-    read_fit (is_read text) _ (λ n given. some_fit (meaning_of after (words_of text)) (λ l was. line_cases IsFit each_fit after (words_of text) l was) n given) m is
+line_fit : (progress : Progress) (text : List ℕ) (m : Result (Option Line) Why) → line_meaning progress text m → FitOrNone m
+line_fit progress text m is =
+    read_fit (is_read text) _ (λ n given. some_fit (meaning_of progress (words_of text)) (λ l was. line_cases IsFit each_fit progress (words_of text) l was) n given) m is
 
-goes_fit : (Behind : Bool → Lines → Type 0) → ((later : Bool) (found : Lines) → Behind later found → AreFit found.lines)
-    → (number : ℕ) (after : Bool) (m : Result (Option Line) Why) (found : Lines) → FitOrNone m → GoesOn Behind number after m found → AreFit found.lines
-goes_fit Behind rest number after (Ok None) found fit is = rest after found is
-goes_fit Behind rest number after (Ok (Some l)) found fit is =
-    subst (λ (f : Lines). AreFit f.lines) (sym is.2) (fit, rest (after || is_event l) is.0 is.1)
-goes_fit Behind rest number after (Err why) found fit is = subst (λ (f : Lines). AreFit f.lines) (sym is) tt
+goes_fit : (Behind : Progress → Lines → Type 0) → ((later : Progress) (found : Lines) → Behind later found → AreFit found.lines)
+    → (number : ℕ) (progress : Progress) (m : Result (Option Line) Why) (found : Lines) → FitOrNone m → GoesOn Behind number progress m found → AreFit found.lines
+goes_fit Behind rest number progress (Ok None) found fit is = rest progress found is
+goes_fit Behind rest number progress (Ok (Some l)) found fit is =
+    subst (λ (f : Lines). AreFit f.lines) (sym is.2) (fit, rest (progress_after progress l) is.0 is.1)
+goes_fit Behind rest number progress (Err why) found fit is = subst (λ (f : Lines). AreFit f.lines) (sym is) tt
 
-all_fit : (number : ℕ) (after : Bool) (texts : List (List ℕ)) (found : Lines) → AreRead number after texts found → AreFit found.lines
-all_fit number after [] found is = subst (λ (f : Lines). AreFit f.lines) (sym is) tt
-all_fit number after (text ∷ texts) found is =
+all_fit : (number : ℕ) (progress : Progress) (texts : List (List ℕ)) (found : Lines) → AreRead number progress texts found → AreFit found.lines
+all_fit number progress [] found is = subst (λ (f : Lines). AreFit f.lines) (sym is) tt
+all_fit number progress (text ∷ texts) found is =
     goes_fit (λ later. AreRead (number + 1) later texts) (λ later rest given. all_fit (number + 1) later texts rest given)
-    number after is.0 found (line_fit after text is.0 is.1) is.2
+    number progress is.0 found (line_fit progress text is.0 is.1) is.2
 
 pub reading_fit : (text : List ℕ) (lines : Lines) → IsReading text lines → AreFit lines.lines
-reading_fit text lines is = all_fit 1 false (lines_of text) lines is
+reading_fit text lines is = all_fit 1 at_start (lines_of text) lines is
 
 -- ---- events
 

@@ -7,7 +7,7 @@ use Rattle.std.proofs.lemmas.List.Elements.{All-cons, All-nil}
 use Rattle.hr_digest.specs.declared.digest.Digest.{Digest}
 use Rattle.hr_event.specs.declared.reference.Fetched.{Fetched}
 use Rattle.hr_manifest.specs.Canonical.{index_media, index_text}
-use Rattle.hr_manifest.specs.Writable.{IsPlain}
+use Rattle.hr_text.specs.Escaping.{IsUnescaped}
 use Rattle.hr_manifest.specs.declared.child.Child.{Child}
 use Rattle.hr_manifest.specs.declared.child.ChildKind.TheVariants as kind
 use Rattle.hr_adapter.specs.Content.{Content, manifest_at, tag_at}
@@ -81,16 +81,16 @@ child_is_lost c repo tag d names none =
 
 -- ---- their media types
 
-child_under : (c : Content) (repo : List ℕ) (d : Digest) (kid : Child) → ArePlain c → (m : Option Fetched) → IfSome m (λ n. IsPlain n.media)
-    → option_map (λ n. record { kind = kind.Manifest; digest = d; size = length n.bytes; media = n.media }) m ≡ Some kid → IsPlain kid.media
+child_under : (c : Content) (repo : List ℕ) (d : Digest) (kid : Child) → ArePlain c → (m : Option Fetched) → IfSome m (λ n. IsUnescaped n.media)
+    → option_map (λ n. record { kind = kind.Manifest; digest = d; size = length n.bytes; media = n.media }) m ≡ Some kid → IsUnescaped kid.media
 child_under c repo d kid plain None h is = cc is
 child_under c repo d kid plain (Some m) h is =
     let e : record { kind = kind.Manifest; digest = d; size = length m.bytes; media = m.media } ≡ kid = cc is in
-    subst (λ (k : Child). IsPlain k.media) e h
+    subst (λ (k : Child). IsUnescaped k.media) e h
 
 child_plain : (c : Content) (repo : List ℕ) (kid : Child) → ArePlain c → (named : Option Digest)
     → option_and_then (λ d. option_map (λ n. record { kind = kind.Manifest; digest = d; size = length n.bytes; media = n.media }) (manifest_at c repo d)) named ≡ Some kid
-    → IsPlain kid.media
+    → IsUnescaped kid.media
 child_plain c repo kid plain None is = cc is
 child_plain c repo kid plain (Some d) is = child_under c repo d kid plain (manifest_at c repo d) (plain repo d) is
 
@@ -103,14 +103,14 @@ first_of (Some kid) (Some rest) kids is =
     (kid, rest, refl, refl, sym e)
 
 pub children_plain : (c : Content) (repo : List ℕ) (tags : List (List ℕ)) (kids : List Child) → ArePlain c → children_of c repo tags ≡ Some kids
-    → All (λ child. IsPlain child.media) kids
+    → All (λ child. IsUnescaped child.media) kids
 children_plain c repo [] kids plain is =
     let e : [] ≡ kids = cc is in
-    subst (λ (k : List Child). All (λ child. IsPlain child.media) k) e (All-nil (λ (child : Child). IsPlain child.media))
+    subst (λ (k : List Child). All (λ child. IsUnescaped child.media) k) e (All-nil (λ (child : Child). IsUnescaped child.media))
 children_plain c repo (tag ∷ tags) kids plain is =
     let parts = first_of (child_of c repo tag) (children_of c repo tags) kids is in
-    subst (λ (k : List Child). All (λ child. IsPlain child.media) k) (sym parts.4)
-    (All-cons (λ (child : Child). IsPlain child.media) parts.0 parts.1 (child_plain c repo parts.0 plain (tag_at c repo tag) parts.2)
+    subst (λ (k : List Child). All (λ child. IsUnescaped child.media) k) (sym parts.4)
+    (All-cons (λ (child : Child). IsUnescaped child.media) parts.0 parts.1 (child_plain c repo parts.0 plain (tag_at c repo tag) parts.2)
     (children_plain c repo tags parts.1 plain parts.3))
 
 -- ---- one registry of several

@@ -27,12 +27,12 @@ Follows next (Ok value) answer = next value answer
 Follows next (Err why) answer = answer ≡ Err why
 
 infixl 10 ◌>>=◌
--- the one, and then the other with its value
+-- a first meaning, and then another by its value
 abbrev pub ◌>>=◌ : {A B : Type 0} → Meaning A → (A → Meaning B) → Meaning B
 ◌>>=◌ {A} {B} first next answer =
     (value : Result A Why) × first value × Follows next value answer
 
--- one word after the other
+-- the meanings of words, one after the other
 abbrev pub each : {W A : Type 0} → (W → Meaning A) → List W → Meaning (List A)
 each of [] = gives []
 each of (word ∷ words) = do
@@ -40,7 +40,7 @@ each of (word ∷ words) = do
   values ← each of words
   gives (value ∷ values)
 
--- the answer is right, or memory ran out
+-- the answer is right by this meaning, or memory ran out
 abbrev pub Answers : {A : Type 0} → Meaning A → Result A Refused → Type 0
 Answers meaning (Ok value) = meaning (Ok value)
 Answers meaning (Err (Bad why)) = meaning (Err why)

@@ -1,7 +1,4 @@
 use super::*;
-use hr_base::{Bytes, List, PolicyNo, RegNo};
-use hr_event::Event;
-use hr_name::{Name, Tag};
 use std::alloc::Global;
 use std::test::Fail;
 
@@ -13,102 +10,13 @@ fn read(alloc: Global, text: &[u8]) -> Result<Lines, Fail> {
     Ok(read_lines(alloc, text)?)
 }
 
-// The one line of a text.
-fn one(alloc: Global, text: &[u8]) -> Result<Line, Fail> {
-    let mut lines: Vec<Numbered> = read(alloc, text)?.lines.into();
-    let Numbered { number: _, line } = lines.pop().ok_or("no line was read")?;
-    Ok(line)
-}
-
-fn name(alloc: Global) -> Result<Name, Fail> {
-    Ok(Name::read(alloc, b"library/app").ok().ok_or("no name")?)
-}
-
-fn tag(alloc: Global) -> Result<Tag, Fail> {
-    Ok(Tag::read(alloc, b"v1.2").ok().ok_or("no tag")?)
-}
-
-fn manifest(alloc: Global, media: &[u8], text: &[u8]) -> Result<Line, Fail> {
-    Ok(Line::Manifest {
-        reg: RegNo(1),
-        repo: name(alloc)?,
-        tag: tag(alloc)?,
-        media: Bytes::of(alloc, media)?,
-        text: Bytes::of(alloc, text)?,
-    })
-}
-
 #[test]
-fn setup_lines_give_their_words(rt: HostRuntime) -> Result<(), Fail> {
-    let alloc = rt.alloc();
-    let mut layers = List::new(alloc);
-    layers.push(Bytes::of(alloc, b"{}")?)?;
-    let image = Line::Image {
-        reg: RegNo(8),
-        repo: name(alloc)?,
-        tag: tag(alloc)?,
-        layers,
-    };
-    assert_eq!(rt; one(alloc, b"image 8 library/app v1.2 7b7d")?, image);
-    let mut children = List::new(alloc);
-    children.push(tag(alloc)?)?;
-    let index = Line::Index {
-        reg: RegNo(1),
-        repo: name(alloc)?,
-        tag: tag(alloc)?,
-        children,
-    };
-    assert_eq!(rt; one(alloc, b"index 1 library/app v1.2 v1.2\n")?, index);
-    let orphan = Line::Orphan {
-        reg: RegNo(2),
-        repo: name(alloc)?,
-        layers: List::new(alloc),
-    };
-    assert_eq!(rt; one(alloc, b"orphan 2 library/app")?, orphan);
-    Ok(())
-}
-
-#[test]
-fn the_text_of_a_manifest_is_the_rest_of_its_line(rt: HostRuntime) -> Result<(), Fail> {
-    let alloc = rt.alloc();
-    let cases: [(&[u8], &[u8], &[u8]); 5] = [
-        (b"manifest 1 library/app v1.2 m {}", b"m", b"{}"),
-        (b"manifest 1 library/app v1.2 m  a  b ", b"m", b" a  b "),
-        (b"manifest 1 library/app v1.2 m \n", b"m", b""),
-        (b"manifest 1 library/app v1.2  x", b"", b"x"),
-        (
-            b"manifest 1 library/app v1.2 \xc3\xa9 x\r\n",
-            b"\xc3\xa9",
-            b"x\r",
-        ),
-    ];
-    for (text, media, rest) in cases {
-        assert_eq!(rt;
-            one(alloc, text)?,
-            manifest(alloc, media, rest)?,
-            "{text:?}"
-        );
-    }
-    Ok(())
-}
-
-#[test]
-fn each_event_is_read(rt: HostRuntime) -> Result<(), Fail> {
-    let most = PolicyNo(4294967295);
-    let cases: [(&[u8], Event); 4] = [
-        (
-            b"trigger 0",
-            Event::Trigger {
-                policy: PolicyNo(0),
-            },
-        ),
-        (b"trigger 4294967295", Event::Trigger { policy: most }),
-        (b"# one\n\nfinish", Event::Finish),
-        (b"tags 8\n", Event::Tags { reg: RegNo(8) }),
-    ];
-    for (text, event) in cases {
-        assert_eq!(rt; one(rt.alloc(), text)?, Line::Event(event), "{text:?}");
-    }
+fn each_kind_of_line_is_read(rt: HostRuntime) -> Result<(), Fail> {
+    let text = b"# one\nimage 8 library/app v1.2 7b7d 00ff\n\nindex 1 app all a _b\norphan 2 app\n\
+        manifest 1 app t m {\"a\": 1,  \"b\":2 }\ntrigger 4294967295\nfinish\ntags 8";
+    let Lines { lines, fault } = read(rt.alloc(), text)?;
+    assert_eq!(rt; fault, None);
+    assert_eq!(rt; lines.view().len(), 7);
     Ok(())
 }
 

@@ -2,6 +2,7 @@
 ghost use Rattle.std.specs.Prelude.{◌≡◌, ◌≤◌, ◌↔◌, ◌⊎◌, IsTrue, List, Option, ℕ, length};
 ghost use Rattle.hr_cause.specs.Stream.{Rose, TookFront};
 ghost use Rattle.hr_top.specs.Answers.{memory_text};
+ghost use Rattle.hr_script.specs.declared.reading.TheConstants.{SCRIPT_LIMIT};
 ghost use Rattle.hr_top.specs.Input.{WasRead};
 ghost use Rattle.hr_top.specs.Outcome.{Comes};
 ghost use Rattle.hr_top.specs.Command.{IsAny, IsFaulted, IsNothing, IsRefused, IsReplay, IsStatus, IsUsage, Replayed as IsReplayed, Sent, SentFront};

@@ -1,7 +1,7 @@
 use Rattle.std.proofs.Common.{List, sym, subst, ap, ◌∙◌}
 use Rattle.std.specs.List.{All}
 use Rattle.hr_manifest.specs.Canonical.{index_text}
-use Rattle.hr_manifest.specs.Writable.{IsPlain}
+use Rattle.hr_text.specs.Escaping.{IsUnescaped}
 use Rattle.hr_manifest.specs.declared.child.Child.{Child}
 use Rattle.hr_replay.proofs.StoreLemmas.{children_plain, index_made}
 use Rattle.hr_replay.proofs.line.store_index.Goals as goal
@@ -15,5 +15,5 @@ returns c = record {
 
 pub write_index-requires : goal.write_index-requires
 write_index-requires c =
-    subst (λ (l : List Child). All (λ child. IsPlain child.media) l) (sym c.view.ensures)
+    subst (λ (l : List Child). All (λ child. IsUnescaped child.media) l) (sym c.view.ensures)
     (children_plain c.args.registry.now.content c.args.repo.now c.args.children.now c.in-Ok.children c.requires.plain c.in-Ok.ensures.ok)
