@@ -1,31 +1,32 @@
 -- Which children can be written so that they read back (RFC 8259, section 7, "Strings").
-use Rattle.std.specs.Prelude.{◌≡◌, ◌^◌, ◌<◌, ◌==◌, ◌&&◌, ◌||◌, not, nat_le, ℕ, Bool, List}
+use Rattle.std.specs.Prelude.{◌≡◌, ◌^◌, ◌<◌, ◌==◌, ◌&&◌, ◌||◌, not, nat_le, ℕ, Bool}
 use Rattle.std.specs.List.{AllPass}
 use Rattle.std.specs.Str.{IsUtf8}
+use Rattle.hr_base.specs.Bytes.{ByteList}
 use Rattle.hr_digest.specs.Reading.{IsWhole}
 use Rattle.hr_manifest.specs.declared.child.Child.{Child}
 use Rattle.hr_manifest.specs.declared.child.ChildKind.TheVariants.{Manifest}
 
--- a byte that JSON does not escape in a string: all but 0 to 31, `"` and `\`
+-- A byte that JSON does not escape in a string: any but 0 to 31, `"` and `\`.
 abbrev pub is_unescaped : ℕ → Bool
 is_unescaped b = nat_le 32 b && not (b == 34 || b == 92)
 
--- the bytes stand in a string of JSON as they are
-abbrev pub IsPlain : List ℕ → Type 0
+-- The bytes stand in a string of JSON as they are.
+abbrev pub IsPlain : ByteList → Type 0
 IsPlain bytes = AllPass is_unescaped bytes
 
--- what the type of a child gives: a digest as long as its algorithm gives, and a size of 64 bits
+-- A child as its type gives it: a digest as long as its algorithm gives, and a size of 64 bits.
 pub record IsFit (child : Child) : Type 0 where
   pub whole : IsWhole child.digest
   pub small : child.size < 2 ^ 64
 
--- a child whose descriptor is a text: its media type is UTF-8, and stands in a string as it is
+-- A child whose descriptor is a text: its media type is UTF-8, and stands in a string as it is.
 pub record IsWritable (child : Child) : Type 0 where
   pub fit : IsFit child
   pub text : IsUtf8 child.media
   pub plain : IsPlain child.media
 
--- a child that an index lists: a manifest of less than 2^63 bytes, under a media type in UTF-8
+-- A child that an index lists: a manifest of less than 2^63 bytes, under a media type in UTF-8.
 pub record IsListed (child : Child) : Type 0 where
   pub kind : child.kind ≡ Manifest
   pub size : child.size < 2 ^ 63
