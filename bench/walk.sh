@@ -75,7 +75,9 @@ fn walk(alloc: Global, root: Manifest, mut images: Vec<Manifest>) -> Result<Opti
             Need::Manifest(digest) => walk.give(Given::Manifest(next(&mut images, digest)?)),
             Need::HasBlob(_) => walk.give(Given::Found { len: None }),
             Need::CopyBlob(_) => {
-                let len = walk.size();
+                let Some(len) = walk.size() else {
+                    bail!("a blob has no size");
+                };
                 walk.give(Given::Copied { len })
             }
             Need::PutManifest(_) => walk.give(Given::Put),

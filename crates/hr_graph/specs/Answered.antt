@@ -22,7 +22,8 @@ pub record IsSettled (view new : View) : Type 0 where
 
 -- A child manifest was opened: it has the size that the newest open manifest says of its next
 -- child, and it is open above that one.
-pub record ChildWasOpened (old : View) (digest : Digest) (manifest : Parts) (new : View) : Type 0 where
+pub record ChildWasOpened (old : View) (digest : Digest) (manifest : Parts) (new : View)
+    : Type 0 where
   pub parent : Opened
   pub below : List Opened
   pub opened : old.opened ≡ parent ∷ below
@@ -49,7 +50,8 @@ pub record ManifestWasPut (old : View) (digest : Digest) (new : View) : Type 0 w
 abbrev pub IsAnswered : View → Need → Given → View → Type 0
 IsAnswered old (need.Manifest digest) (given.Manifest manifest) new =
     ChildWasOpened old digest manifest new
-IsAnswered old (need.HasBlob digest) (given.Found (Some len)) new = BlobWasFinished old digest len new
+IsAnswered old (need.HasBlob digest) (given.Found (Some len)) new =
+    BlobWasFinished old digest len new
 IsAnswered old (need.HasBlob digest) (given.Found None) new = BlobIsToBeCopied old digest new
 IsAnswered old (need.CopyBlob digest) (given.Copied len) new = BlobWasFinished old digest len new
 IsAnswered old (need.PutManifest digest) given.Put new = ManifestWasPut old digest new

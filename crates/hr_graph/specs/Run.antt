@@ -74,7 +74,8 @@ module _ (root : Digest) (manifest : Parts) where
     pub manifest_is : Parts
     pub given_before : WasGiven before digest manifest_is
     pub alone : (other : Parts) → WasGiven before digest other → other ≡ manifest_is
-    pub each : AllByRecursion (λ child. WasFinished before child.kind child.digest) manifest_is.children
+    pub each : AllByRecursion (λ child. WasFinished before child.kind child.digest)
+        manifest_is.children
 
   -- An exchange that puts a manifest comes after all that the manifest lists.
   abbrev pub IsInOrder : Need → Given → List Exchange → Type 0

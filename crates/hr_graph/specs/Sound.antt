@@ -143,13 +143,14 @@ module _ (blobs : List (Digest × ℕ)) (manifests : List (Digest × Finished)) 
   IsBelowAs kind.Manifest child = (done : Finished)
       × (known child.digest manifests ≡ Some done) × (done.len ≡ child.size) × (done.height < height)
 
-  -- A child of a manifest of this height was finished with its size where it isn't foreign; one that
-  -- is a manifest is lower.
+  -- A child of a manifest of this height was finished with its size where it isn't foreign; one
+  -- that is a manifest is lower.
   abbrev pub IsBelow : Child → Type 0
   IsBelow child = IsBelowAs child.kind child
 
 -- A height is one more than that of some child that is a manifest and was put.
-pub record IsAttained (manifests : List (Digest × Finished)) (children : List Child) (height : ℕ) : Type 0 where
+pub record IsAttained (manifests : List (Digest × Finished)) (children : List Child) (height : ℕ)
+    : Type 0 where
   pub child : Child
   pub within : Contains children child
   pub kind : child.kind ≡ kind.Manifest
@@ -157,8 +158,8 @@ pub record IsAttained (manifests : List (Digest × Finished)) (children : List C
   pub there : known child.digest manifests ≡ Some done
   pub above : height ≡ done.height + 1
 
--- The newest open manifest has this digest and comes after all that it lists; it is the root exactly
--- where no other is open.
+-- The newest open manifest has this digest and comes after all that it lists; it is the root
+-- exactly where no other is open.
 pub record ComesLast (view : View) (digest : Digest) : Type 0 where
   pub newest : Opened
   pub below : List Opened

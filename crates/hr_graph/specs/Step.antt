@@ -69,8 +69,8 @@ with_put view o below = record view {
   manifests = view.manifests ++ (o.digest, finished_of view.manifests o) ∷ [];
 }
 
--- A manifest was given: where it has the size that the newest open manifest says of it, its children
--- come next.
+-- A manifest was given: where it has the size that the newest open manifest says of it, its
+-- children come next.
 abbrev pub after_manifest : View → Digest → Parts → List Opened → Result View WalkRefused
 after_manifest view digest manifest [] = Ok view
 after_manifest view digest manifest (o ∷ below) =

@@ -6,19 +6,19 @@ use Rattle.serde_json.specs.View.{view}
 use Rattle.hr_json.specs.declared.node.Node.{Node}
 use Rattle.hr_json.specs.declared.items.Items.{Items as Listed}
 
--- the value of a node
+-- The JSON value of a node.
 abbrev pub value_of : Node → Data
 value_of node = view node.value.now
 
--- items as a list of values
+-- The items of a JSON list, as a list of values.
 abbrev pub list_of : Items → List Data
 list_of no_items = []
 list_of (item first rest) = first ∷ list_of rest
 
--- the items of a list, in order
+-- The items of a JSON value in order, where it is a list.
 abbrev pub items_in : Data → Option (List Data)
 items_in value = option_map list_of (as_array value)
 
--- the values of the items of a list
+-- The JSON values of items within a document, in order.
 abbrev pub values_of : Listed → List Data
 values_of items = map view items.list.now.items

@@ -3,7 +3,8 @@ mod DescriptorLemmas
 mod EachLemmas
 mod PieceLemmas
 mod PlainLemmas
-pub mod ReadingLemmas
+pub mod ReadingLaws
+mod ReadingLemmas
 mod RoundTripLemmas
 mod TextLemmas
 mod ValueLemmas

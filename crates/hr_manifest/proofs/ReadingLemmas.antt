@@ -8,7 +8,8 @@ use Rattle.hr_manifest.specs.declared.child.Child.{Child}
 use Rattle.hr_manifest.specs.declared.form.Form.{Form}
 use Rattle.hr_manifest.specs.declared.form.Form.TheVariants.{Image, Index}
 use Rattle.hr_manifest.specs.declared.descriptor.Role.TheVariants as role
-use Rattle.hr_manifest.specs.declared.manifest.TheConstants.{CHILD_LIMIT, MANIFEST_LIMIT}
+use Rattle.hr_base.specs.declared.limit.TheConstants.{MANIFEST_LIMIT}
+use Rattle.hr_manifest.specs.declared.manifest.TheConstants.{CHILD_LIMIT}
 use Rattle.hr_manifest.specs.declared.refusal.ManifestKey.TheVariants as key
 use Rattle.hr_manifest.specs.declared.refusal.Unreadable.{Unreadable}
 use Rattle.hr_manifest.specs.declared.refusal.Unreadable.TheVariants.{Field, Media, NotJson, TooLong, TooMany}

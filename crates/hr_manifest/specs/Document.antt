@@ -4,30 +4,31 @@ use Rattle.std.specs.Prelude.{List, [], ◌∷◌, codes}
 use Rattle.serde_json.specs.Data.{Data, number, string, array, object, Items, no_items, item, no_members, member, unsigned}
 use Rattle.hr_digest.specs.Digest.{text_of_digest}
 use Rattle.hr_manifest.specs.declared.child.Child.{Child}
+use Rattle.hr_manifest.specs.declared.media.TheConstants.{OCI_IMAGE, OCI_INDEX}
 
--- the descriptor of a child
+-- The JSON value of the descriptor of a child.
 abbrev pub descriptor_value : Child → Data
 descriptor_value child =
     object (member (codes "digest") (string (text_of_digest child.digest))
     (member (codes "mediaType") (string child.media)
     (member (codes "size") (number (unsigned child.size)) no_members)))
 
--- the descriptors of children, in order
+-- The JSON values of the descriptors of children, in order.
 abbrev pub descriptor_values : List Child → Items
 descriptor_values [] = no_items
 descriptor_values (child ∷ children) = item (descriptor_value child) (descriptor_values children)
 
--- the manifest of an image with this config and these layers
+-- The JSON value of the manifest of an image with this config and these layers.
 abbrev pub image_value : Child → List Child → Data
 image_value config layers =
     object (member (codes "config") (descriptor_value config)
     (member (codes "layers") (array (descriptor_values layers))
-    (member (codes "mediaType") (string (codes "application/vnd.oci.image.manifest.v1+json"))
+    (member (codes "mediaType") (string OCI_IMAGE.now)
     (member (codes "schemaVersion") (number (unsigned 2)) no_members))))
 
--- the index of these children
+-- The JSON value of the index of these children.
 abbrev pub index_value : List Child → Data
 index_value children =
     object (member (codes "manifests") (array (descriptor_values children))
-    (member (codes "mediaType") (string (codes "application/vnd.oci.image.index.v1+json"))
+    (member (codes "mediaType") (string OCI_INDEX.now)
     (member (codes "schemaVersion") (number (unsigned 2)) no_members)))

@@ -5,27 +5,27 @@ use Rattle.hr_manifest.specs.declared.refusal.ManifestKey.{ManifestKey}
 use Rattle.hr_manifest.specs.declared.refusal.Unreadable.{Unreadable}
 use Rattle.hr_manifest.specs.declared.refusal.Unreadable.TheVariants.{Field}
 
--- what follows, where the test before it did not fail
+-- What follows a test that did not fail, and else the test's fault.
 infixl 10 ◌>>=◌
 abbrev pub ◌>>=◌ : {A B : Type 0} → Result A Unreadable → (A → Result B Unreadable) → Result B Unreadable
 Ok x >>= next = next x
 Err why >>= next = Err why
 
--- the same, where the test gives no value
+-- What follows a test that gives no value and did not fail, and else the test's fault.
 infixl 10 ◌>>◌
 abbrev pub ◌>>◌ : {A B : Type 0} → Result A Unreadable → Result B Unreadable → Result B Unreadable
 Ok x >> next = next
 Err why >> next = Err why
 
--- a test that must hold, and the fault where it does not
+-- A test that must hold, with the fault where it does not.
 abbrev pub check : Bool → Unreadable → Result ⊤ Unreadable
 check holds why = if holds then Ok tt else Err why
 
--- a member that must be there and of its kind
+-- A member that must be there and of its kind.
 abbrev pub field : {A : Type 0} → ManifestKey → Option A → Result A Unreadable
 field name found = ok_or found (Field name)
 
--- the values, where there is one in each place, or the first fault
+-- The values, where there is one in each place, or the first fault.
 abbrev pub each : {A : Type 0} → List (Result A Unreadable) → Result (List A) Unreadable
 each [] = Ok []
 each (first ∷ rest) = do

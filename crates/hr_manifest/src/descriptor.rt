@@ -4,7 +4,7 @@ ghost use Rattle.hr_json.specs.Node.{value_of};
 ghost use Rattle.hr_manifest.specs.Descriptor.{child_of, digest_in, is_foreign, kind_of, number_at, size_in, text_at};
 
 use crate::field::{number_at, text_at};
-use crate::{Child, ChildKind, ManifestKey, Unreadable};
+use crate::{Child, ChildKind, FOREIGN_LAYER, ManifestKey, Unreadable};
 use hr_base::Bytes;
 use hr_digest::{Digest, digest_is_whole};
 use hr_json::Node;
@@ -64,7 +64,7 @@ fn kind_of(role: Role, media: &[u8]) -> ChildKind
 fn is_foreign(media: &[u8]) -> bool
     ensures { result ≡ is_foreign media.now }
 {
-    media == b"application/vnd.docker.image.rootfs.foreign.diff.tar.gzip".as_slice()
+    media == FOREIGN_LAYER
 }
 
 fn digest_at(node: &Node<'_>) -> Option<Digest>

@@ -3,6 +3,8 @@
 ghost use Rattle.std.specs.Prelude.{◌≡◌};
 ghost use Rattle.hr_manifest.specs.Reading.{form_of, is_image, is_index};
 
+use crate::{DOCKER_IMAGE, DOCKER_INDEX, OCI_IMAGE, OCI_INDEX};
+
 /// What a manifest lists.
 #[derive(Clone, Copy, Debug, PartialEq, Eq)]
 pub(crate) enum Form {
@@ -28,13 +30,11 @@ pub(crate) fn form_of(media: &[u8]) -> Option<Form>
 fn is_image(media: &[u8]) -> bool
     ensures { result ≡ is_image media.now }
 {
-    media == b"application/vnd.oci.image.manifest.v1+json".as_slice()
-        || media == b"application/vnd.docker.distribution.manifest.v2+json".as_slice()
+    media == OCI_IMAGE || media == DOCKER_IMAGE
 }
 
 fn is_index(media: &[u8]) -> bool
     ensures { result ≡ is_index media.now }
 {
-    media == b"application/vnd.oci.image.index.v1+json".as_slice()
-        || media == b"application/vnd.docker.distribution.manifest.list.v2+json".as_slice()
+    media == OCI_INDEX || media == DOCKER_INDEX
 }

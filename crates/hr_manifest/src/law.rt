@@ -1,10 +1,11 @@
 //! What holds of every reading of a manifest. (Our own.)
 ghost use Rattle.std.specs.Prelude.{◌≡◌, ◌≤◌, ◌⊎◌, List, length};
-ghost use Rattle.hr_manifest.specs.Reading.{Reads, Refuses};
+ghost use Rattle.hr_manifest.specs.Reading.{IsManifestMedia, Reads, Refuses};
 ghost use Rattle.hr_manifest.specs.declared.child.Child.{Child};
 ghost use Rattle.hr_manifest.specs.declared.refusal.Unreadable.{Unreadable};
 
-use crate::{CHILD_LIMIT, MANIFEST_LIMIT};
+use crate::CHILD_LIMIT;
+use hr_base::MANIFEST_LIMIT;
 
 /// Bytes are read under a media type or refused, never both, and in one way.
 pub fn bytes_are_read_or_refused(media: &[u8], bytes: &[u8])
@@ -26,6 +27,15 @@ pub fn children_depend_on_the_bytes_alone(media: &[u8], other: &[u8], bytes: &[u
 {
     let _ = media;
     let _ = other;
+    let _ = bytes;
+}
+
+/// What is read has one of four media types.
+pub fn manifests_have_four_media_types(media: &[u8], bytes: &[u8])
+    ensures { (children : List Child) → Reads media.now bytes.now children
+        → IsManifestMedia media.now }
+{
+    let _ = media;
     let _ = bytes;
 }
 

@@ -4,12 +4,9 @@ ghost use Rattle.hr_manifest.specs.Reading.{Reads, Refuses, form_of};
 
 use crate::reading::read_children;
 use crate::{Child, Unreadable};
-use hr_base::{Bytes, List};
+use hr_base::{Bytes, List, MANIFEST_LIMIT};
 use std::alloc::Global;
 use std::marker::Model;
-
-/// How many bytes a manifest has at most. (Our own; registries have the same limit.)
-pub const MANIFEST_LIMIT: usize = 4_194_304;
 
 /// How many children a manifest has at most, the config among them. (Our own.)
 pub const CHILD_LIMIT: u64 = 4096;

@@ -10,8 +10,8 @@ ghost use Rattle.hr_manifest.specs.Step.{each};
 use crate::descriptor::{Role, read_child};
 use crate::field::{has, items_at, number_at, object_at, text_at};
 use crate::form::{Form, form_of};
-use crate::{CHILD_LIMIT, Child, MANIFEST_LIMIT, ManifestKey, Unreadable};
-use hr_base::List;
+use crate::{CHILD_LIMIT, Child, ManifestKey, Unreadable};
+use hr_base::{List, MANIFEST_LIMIT};
 use hr_json::{Doc, Items, JsonRefused, Node};
 use std::alloc::Global;
 
@@ -27,10 +27,9 @@ pub(crate) fn read_children(
     ensures memory { (result ≡ Err Unreadable.Memory)
         → (length bytes.now ≤ MANIFEST_LIMIT) × IsSome (form_of media.now) }
 {
-    if bytes.len() > MANIFEST_LIMIT {
-        return Err(Unreadable::TooLong {
-            len: bytes.len() as u64,
-        });
+    let len = bytes.len() as u64;
+    if len > MANIFEST_LIMIT {
+        return Err(Unreadable::TooLong { len });
     }
     let Some(form) = form_of(media) else {
         return Err(Unreadable::Media);

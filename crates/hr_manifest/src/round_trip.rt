@@ -9,7 +9,8 @@ ghost use Rattle.hr_manifest.specs.Document.{image_value, index_value};
 ghost use Rattle.hr_manifest.specs.Writable.{IsListed, IsWritable};
 ghost use Rattle.hr_manifest.specs.Reading.{Reads};
 ghost use Rattle.hr_manifest.specs.declared.child.Child.{Child};
-ghost use Rattle.hr_manifest.specs.declared.manifest.TheConstants.{CHILD_LIMIT, MANIFEST_LIMIT};
+ghost use Rattle.hr_base.specs.declared.limit.TheConstants.{MANIFEST_LIMIT};
+ghost use Rattle.hr_manifest.specs.declared.manifest.TheConstants.{CHILD_LIMIT};
 
 /// A law: the text of an image, of which each part has less than 2^64 bytes, is a text in UTF-8,
 /// and as JSON it is the value of the image.

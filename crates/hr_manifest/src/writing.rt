@@ -6,16 +6,13 @@ ghost use Rattle.hr_manifest.specs.Canonical.{blob_of, descriptor, descriptor_wi
 ghost use Rattle.hr_manifest.specs.Reading.{Reads};
 ghost use Rattle.hr_text.specs.Escaping.{IsUnescaped};
 ghost use Rattle.hr_manifest.specs.Writable.{IsFit, IsListed};
-ghost use Rattle.hr_manifest.specs.declared.manifest.TheConstants.{CHILD_LIMIT, MANIFEST_LIMIT};
+ghost use Rattle.hr_base.specs.declared.limit.TheConstants.{MANIFEST_LIMIT};
+ghost use Rattle.hr_manifest.specs.declared.manifest.TheConstants.{CHILD_LIMIT};
 
-use crate::Child;
+use crate::{Child, OCI_CONFIG, OCI_LAYER};
 use hr_base::{Bytes, Memory};
 use hr_digest::{Digest, digest_is_whole};
 use std::alloc::Global;
-
-const CONFIG: &[u8] = b"application/vnd.oci.image.config.v1+json";
-
-const LAYER: &[u8] = b"application/vnd.oci.image.layer.v1.tar";
 
 /// The manifest of an image with this config and these layers, in order: one line of JSON. Their
 /// digests and lengths are those of the given bytes.
@@ -31,7 +28,7 @@ pub fn write_image(alloc: Global, config: &[u8], layers: &[Bytes]) -> Result<Byt
     text.extend_from_slice(
         b"{\"schemaVersion\":2,\"mediaType\":\"application/vnd.oci.image.manifest.v1+json\",\"config\":",
     )?;
-    push_content(alloc, &mut text, CONFIG, config)?;
+    push_content(alloc, &mut text, OCI_CONFIG, config)?;
     text.extend_from_slice(b",\"layers\":[")?;
     push_layers(alloc, &mut text, layers)?;
     text.extend_from_slice(b"]}")?;
@@ -67,10 +64,10 @@ fn push_layers(alloc: Global, text: &mut Vec<u8>, layers: &[Bytes]) -> Result<()
     let Some((first, others)) = layers.split_first() else {
         return Ok(());
     };
-    push_content(alloc, text, LAYER, first.view())?;
+    push_content(alloc, text, OCI_LAYER, first.view())?;
     for layer in others {
         text.extend_from_slice(b",")?;
-        push_content(alloc, text, LAYER, layer.view())?;
+        push_content(alloc, text, OCI_LAYER, layer.view())?;
     }
     Ok(())
 }

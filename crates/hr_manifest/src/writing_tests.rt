@@ -64,15 +64,6 @@ fn an_index_lists_two_images_with_one_config(rt: HostRuntime) -> Result<(), Fail
     Ok(())
 }
 
-#[test]
-fn an_index_may_list_nothing(rt: HostRuntime) -> Result<(), Fail> {
-    let text = write_index(rt.alloc(), &[])?;
-    let want =
-        b"{\"schemaVersion\":2,\"mediaType\":\"application/vnd.oci.image.index.v1+json\",\"manifests\":[]}";
-    assert_eq!(rt; text.view(), want.as_slice());
-    Ok(())
-}
-
 fn two_equal_layers() -> &'static [u8] {
     b"{\"schemaVersion\":2,\"mediaType\":\"application/vnd.oci.image.manifest.v1+json\",\"config\":{\"mediaType\":\"application/vnd.oci.image.config.v1+json\",\"digest\":\"sha256:44136fa355b3678a1146ad16f7e8649e94fb4fc21fe77e8310c060f61caaff8a\",\"size\":2},\"layers\":[{\"mediaType\":\"application/vnd.oci.image.layer.v1.tar\",\"digest\":\"sha256:44136fa355b3678a1146ad16f7e8649e94fb4fc21fe77e8310c060f61caaff8a\",\"size\":2},{\"mediaType\":\"application/vnd.oci.image.layer.v1.tar\",\"digest\":\"sha256:44136fa355b3678a1146ad16f7e8649e94fb4fc21fe77e8310c060f61caaff8a\",\"size\":2}]}"
 }
