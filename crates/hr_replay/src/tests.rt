@@ -2,6 +2,7 @@
 
 use super::*;
 use hr_base::Bytes;
+use hr_script::SCRIPT_LIMIT;
 use std::alloc::Global;
 use std::test::Fail;
 
