@@ -19,7 +19,7 @@ use Rattle.hr_graph.specs.declared.opened.TheConstants.{DEPTH_LIMIT, PAIR_LIMIT}
 use Rattle.hr_graph.specs.Walk.{View, known, met_count, said_by, size_said}
 use Rattle.hr_graph.specs.Meeting.{Meeting, child_met, next_in, moved_to}
 use Rattle.hr_graph.specs.Step.{with_root, with_opened, with_blob, with_put, height_by, height_of, finished_of}
-use Rattle.hr_graph.specs.Sound.{IsOver, IsPassedAs, IsPassed, HasPassed, Asks, AsksBlob, AsksManifest, IsSteady, IsSound}
+use Rattle.hr_graph.specs.Sound.{StandsOver, IsPassedAs, IsPassed, HasPassed, Asks, AsksBlob, AsksManifest, IsSteady, IsSound}
 use Rattle.hr_graph.proofs.KnownLemmas.{known_kept, known_new, known_absent, unequal, distinct_snoc, distinct_head, distinct_tail, distinct_open, distinct_none, distinct_one}
 use Rattle.hr_graph.proofs.MeetingLemmas.{Reaches, reaches, kind_passed, kind_asked, all_append, slice_get-drop}
 
@@ -86,7 +86,7 @@ parts root opened blobs manifests need = record {
 }
 
 -- only the place in the newest open manifest changes
-over_moved : (root : Digest) (o : Opened) (at : ℕ) (below : List Opened) → IsOver root o below → IsOver root (record o { next = at }) below
+over_moved : (root : Digest) (o : Opened) (at : ℕ) (below : List Opened) → StandsOver root o below → StandsOver root (record o { next = at }) below
 over_moved root o at [] h = h
 over_moved root o at (p ∷ below) h = record {
   child = h.child;
@@ -275,7 +275,7 @@ low_snoc d done [] h l = (l, tt)
 low_snoc d done (e ∷ es) h l = (h.0, low_snoc d done es h.1 l)
 
 root_was_put : (root : Digest) (o : Opened) (below : List Opened) (manifests : List (Digest × Finished)) (done : Finished)
-    → IsOver root o below → known o.digest manifests ≡ None → below ≡ []
+    → StandsOver root o below → known o.digest manifests ≡ None → below ≡ []
     → (f : Finished) × (known root (manifests ++ (o.digest, done) ∷ []) ≡ Some f)
 root_was_put root o [] manifests done over new e =
     let P : Digest → Type 0 = λ d. known d (manifests ++ (o.digest, done) ∷ []) ≡ Some done in

@@ -35,13 +35,13 @@ pub record IsChildOf (o below : Opened) : Type 0 where
 
 -- An open manifest is the root, at level 0, where no other is open, and else the next child of the
 -- newest of the others.
-abbrev pub IsOver : Digest → Opened → List Opened → Type 0
-IsOver root o [] = (o.digest ≡ root) × (o.level ≡ 0)
-IsOver root o (p ∷ below) = IsChildOf o p
+abbrev pub StandsOver : Digest → Opened → List Opened → Type 0
+StandsOver root o [] = (o.digest ≡ root) × (o.level ≡ 0)
+StandsOver root o (p ∷ below) = IsChildOf o p
 
 -- An open manifest stands over others: its bytes have its digest, and it isn't too deep.
 pub record IsOpen (root : Digest) (o : Opened) (below : List Opened) : Type 0 where
-  pub over : IsOver root o below
+  pub over : StandsOver root o below
   pub digest : digest_of o.manifest.bytes ≡ o.digest
   pub depth : o.level ≤ DEPTH_LIMIT
 

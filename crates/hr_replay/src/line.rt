@@ -9,7 +9,7 @@ ghost use Rattle.hr_replay.specs.Opening.{after_line, child_of, children_of, con
 use hr_base::{Bytes, List, Memory};
 use hr_digest::Digest;
 use hr_event::Fetched;
-use hr_manifest::{Child, ChildKind, write_image, write_index};
+use hr_manifest::{Child, ChildKind, OCI_IMAGE, OCI_INDEX, write_image, write_index};
 use hr_memreg::MemRegistry;
 use hr_name::{Name, Tag};
 use hr_script::Line;
@@ -108,7 +108,7 @@ fn image(alloc: Global, layers: &List<Bytes>) -> Result<Fetched, Memory>
         ≡ record { media = image_media; bytes = image_text config_text layers.now }) }
 {
     Ok(Fetched {
-        media: Bytes::of(alloc, b"application/vnd.oci.image.manifest.v1+json")?,
+        media: Bytes::of(alloc, OCI_IMAGE)?,
         bytes: write_image(alloc, CONFIG, layers.view())?,
     })
 }
@@ -174,7 +174,7 @@ fn store_index(
         Err(refused) => return Err(refused),
     };
     let manifest = Fetched {
-        media: Bytes::of(alloc, b"application/vnd.oci.image.index.v1+json")?,
+        media: Bytes::of(alloc, OCI_INDEX)?,
         bytes: write_index(alloc, children.view())?,
     };
     Ok(store_tagged(registry, repo, tag, manifest)?)
