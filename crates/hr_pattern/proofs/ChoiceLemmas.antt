@@ -1,18 +1,10 @@
 -- How the alternatives of a group are met in turn, and how one of them is put behind a form.
-use Rattle.std.proofs.Common.{◌≡◌, ◌≢◌, ℕ, ◌+◌, ◌/◌, ◌%◌, ◌<◌, zero, suc, Some, None, List, [], ◌∷◌, ◌++◌, length, get_or, drop, refl, sym, ap, ◌∙◌, arith, append_assoc, append-nil}
+use Rattle.std.proofs.Common.{◌≡◌, ◌≢◌, ℕ, ◌+◌, zero, suc, List, [], ◌∷◌, ◌++◌, length, get_or, drop, refl, sym, ap, ◌∙◌, arith, append_assoc, append-nil}
 use Rattle.hr_pattern.specs.declared.item.Item.{Item}
-use Rattle.hr_pattern.specs.declared.item.Item.TheVariants.{Byte}
-use Rattle.hr_pattern.specs.declared.part.Part.{Part}
-use Rattle.hr_pattern.specs.declared.part.Reading.{Reading}
-use Rattle.hr_pattern.specs.declared.refusal.PatternRefused.{PatternRefused}
-use Rattle.hr_pattern.specs.declared.refusal.PatternRefused.TheVariants.{At}
-use Rattle.hr_pattern.specs.declared.refusal.Why.{Why}
-use Rattle.hr_pattern.specs.declared.refusal.Why.TheVariants.{Nested, Stray}
 use Rattle.hr_pattern.specs.declared.sign.Placed.{Placed}
 use Rattle.hr_pattern.specs.declared.sign.Sign.{Sign}
-use Rattle.hr_pattern.specs.declared.sign.Sign.TheVariants.{Stands, Open, Comma, Close, Wrong}
-use Rattle.hr_pattern.specs.Choice.{reading_from, first_choices, behind_first, form_at}
-use Rattle.hr_pattern.specs.Reading.{Broken, Whole, inside, outside, with_part, with_group, with_item, stopped}
+use Rattle.hr_pattern.specs.declared.sign.Sign.TheVariants.{Stands, Comma}
+use Rattle.hr_pattern.specs.Reading.{inside, with_item}
 use Rattle.hr_pattern.specs.Sign.{signs_from}
 use Rattle.hr_pattern.proofs.ReadingLemmas.{after_choices, item_more, choice_ends, after_nothing}
 

@@ -3,7 +3,7 @@ use Rattle.std.proofs.Common.{◌≡◌, ℕ, ◌+◌, ◌*◌, ◌<◌, ◌≤�
 use Rattle.std.proofs.lemmas.List.{drop_more}
 use Rattle.hr_pattern.specs.declared.part.Part.{Part}
 use Rattle.hr_pattern.specs.Form.{forms, too_many}
-use Rattle.hr_pattern.proofs.NumberLemmas.{length-joined}
+use Rattle.hr_pattern.proofs.NumberLemmas.{length-combined}
 
 next_part : (parts : List Part) (i : ℕ) (part : Part) → i < length parts → part ≡ get_or parts i part → drop i parts ≡ part ∷ drop (i + 1) parts
 next_part parts i part lt is = drop_more parts i part lt ∙ ap (λ (p : Part). p ∷ drop (i + 1) parts) (sym is)
@@ -13,7 +13,7 @@ pub product_more : (parts : List Part) (i : ℕ) (part : Part) (count count' : �
 product_more parts i part count count' lt is times so_far =
     ap (λ n. n * length (forms (drop (i + 1) parts))) times
     ∙ mul_assoc count (length part.choices) (length (forms (drop (i + 1) parts)))
-    ∙ ap (λ n. count * n) (sym (length-joined part.choices (forms (drop (i + 1) parts))))
+    ∙ ap (λ n. count * n) (sym (length-combined part.choices (forms (drop (i + 1) parts))))
     ∙ ap (λ (ps : List Part). count * length (forms ps)) (sym (next_part parts i part lt is))
     ∙ so_far
 

@@ -6,39 +6,39 @@ use Rattle.std.proofs.lemmas.Nat.{div-add-mod', mul-add-lt, div-mul-add, mod-mul
 use Rattle.hr_pattern.specs.declared.item.Item.{Item}
 use Rattle.hr_pattern.specs.declared.part.Part.{Part}
 use Rattle.hr_pattern.specs.Choice.{form_at}
-use Rattle.hr_pattern.specs.Form.{joined, forms, forms_of, reading_of}
+use Rattle.hr_pattern.specs.Form.{combined, forms, forms_of, reading_of}
 use Rattle.hr_pattern.proofs.FaultLemmas.{same_forms}
 
 suc_times : (i m : ℕ) → suc i * m ≡ m + i * m
 suc_times i m = omega arith
 
 -- how many there are
-pub length-joined : (fronts backs : List (List Item)) → length (joined fronts backs) ≡ length fronts * length backs
-length-joined [] backs = omega arith
-length-joined (front ∷ fronts) backs =
-    length-append (map (λ back. front ++ back) backs) (joined fronts backs)
-    ∙ ap (λ n. n + length (joined fronts backs)) (length-map backs (λ back. front ++ back))
-    ∙ ap (λ n. length backs + n) (length-joined fronts backs)
+pub length-combined : (fronts backs : List (List Item)) → length (combined fronts backs) ≡ length fronts * length backs
+length-combined [] backs = omega arith
+length-combined (front ∷ fronts) backs =
+    length-append (map (λ back. front ++ back) backs) (combined fronts backs)
+    ∙ ap (λ n. n + length (combined fronts backs)) (length-map backs (λ back. front ++ back))
+    ∙ ap (λ n. length backs + n) (length-combined fronts backs)
     ∙ sym (suc_times (length fronts) (length backs))
 
 -- the back at j behind the front at i
-joined_at : (fronts backs : List (List Item)) (i j : ℕ) → i < length fronts → j < length backs → get_or (joined fronts backs) (i * length backs + j) [] ≡ get_or fronts i [] ++ get_or backs j []
-joined_at [] backs i j lt within = absurd (omega arith)
-joined_at (front ∷ fronts) backs zero j lt within =
+combined_at : (fronts backs : List (List Item)) (i j : ℕ) → i < length fronts → j < length backs → get_or (combined fronts backs) (i * length backs + j) [] ≡ get_or fronts i [] ++ get_or backs j []
+combined_at [] backs i j lt within = absurd (omega arith)
+combined_at (front ∷ fronts) backs zero j lt within =
     let first : List (List Item) = map (λ (back : List Item). front ++ back) backs in
     let many : length first ≡ length backs = length-map backs (λ back. front ++ back) in
     let here : zero * length backs + j ≡ j = omega arith in
-    ap (λ n. get_or (first ++ joined fronts backs) n []) here
-    ∙ get_or_append_left first (joined fronts backs) [] j (omega arith)
+    ap (λ n. get_or (first ++ combined fronts backs) n []) here
+    ∙ get_or_append_left first (combined fronts backs) [] j (omega arith)
     ∙ get_or-map (λ (back : List Item). front ++ back) backs j [] [] within
-joined_at (front ∷ fronts) backs (suc i) j lt within =
+combined_at (front ∷ fronts) backs (suc i) j lt within =
     let first : List (List Item) = map (λ (back : List Item). front ++ back) backs in
     let many : length first ≡ length backs = length-map backs (λ back. front ++ back) in
     let times : suc i * length backs ≡ length backs + i * length backs = suc_times i (length backs) in
     let place : suc i * length backs + j ≡ length first + (i * length backs + j) = omega arith in
-    ap (λ n. get_or (first ++ joined fronts backs) n []) place
-    ∙ get_or-append-add first (joined fronts backs) (i * length backs + j) []
-    ∙ joined_at fronts backs i j (omega arith) within
+    ap (λ n. get_or (first ++ combined fronts backs) n []) place
+    ∙ get_or-append-add first (combined fronts backs) (i * length backs + j) []
+    ∙ combined_at fronts backs i j (omega arith) within
 
 -- the place of the form that a number chooses
 pub record Place (parts : List Part) (number : ℕ) : Type 0 where
@@ -54,8 +54,8 @@ place_more part parts number lt some rest =
     let inside : (number % n) * m + rest.at < m * n = mul-add-lt (number % n) m rest.at n choice rest.within in
     record {
       at = (number % n) * m + rest.at;
-      within = rw (length-joined part.choices (forms parts), mul_comm n m) inside;
-      is = joined_at part.choices (forms parts) (number % n) rest.at choice rest.within
+      within = rw (length-combined part.choices (forms parts), mul_comm n m) inside;
+      is = combined_at part.choices (forms parts) (number % n) rest.at choice rest.within
           ∙ ap (λ (back : List Item). get_or part.choices (number % n) [] ++ back) rest.is;
     }
 
@@ -68,7 +68,7 @@ place_of [] number lt = record { at = 0; within = omega arith; is = refl }
 place_of (part ∷ parts) number lt =
     let n : ℕ = length part.choices in
     let m : ℕ = length (forms parts) in
-    let few : number < n * m = rw (length-joined part.choices (forms parts)) at lt in
+    let few : number < n * m = rw (length-combined part.choices (forms parts)) at lt in
     let some : 0 < n = none_first n m number few in
     place_more part parts number few some (place_of parts (number / n) (div_below number n m some (rw (mul_comm n m) at few)))
 
@@ -87,12 +87,12 @@ number_more part parts at lt some rest =
     let inside : rest.number * n + at / m < n * m = mul-add-lt rest.number n (at / m) m rest.within choice in
     record {
       number = rest.number * n + at / m;
-      within = rw (length-joined part.choices (forms parts)) inside;
+      within = rw (length-combined part.choices (forms parts)) inside;
       is = ap (λ i. get_or part.choices i [] ++ form_at ((rest.number * n + at / m) / n) parts) (mod-mul-add rest.number n (at / m) choice)
           ∙ ap (λ i. get_or part.choices (at / m) [] ++ form_at i parts) (div-mul-add rest.number n (at / m) choice)
           ∙ ap (λ (form : List Item). get_or part.choices (at / m) [] ++ form) rest.is
-          ∙ sym (joined_at part.choices (forms parts) (at / m) (at % m) choice back)
-          ∙ ap (λ i. get_or (joined part.choices (forms parts)) i []) (div-add-mod' at m);
+          ∙ sym (combined_at part.choices (forms parts) (at / m) (at % m) choice back)
+          ∙ ap (λ i. get_or (combined part.choices (forms parts)) i []) (div-add-mod' at m);
     }
 
 pub number_of : (parts : List Part) (at : ℕ) → at < length (forms parts) → Number parts at
@@ -100,7 +100,7 @@ number_of [] at lt = record { number = 0; within = omega arith; is = let first :
 number_of (part ∷ parts) at lt =
     let n : ℕ = length part.choices in
     let m : ℕ = length (forms parts) in
-    let few : at < n * m = rw (length-joined part.choices (forms parts)) at lt in
+    let few : at < n * m = rw (length-combined part.choices (forms parts)) at lt in
     let some : 0 < m = none_first m n at (rw (mul_comm n m) at few) in
     number_more part parts at few some (number_of parts (at % m) (mod_below at m some))
 

@@ -12,9 +12,9 @@ AfterOne Meets Left (thing ∷ things) = Meets thing × Left things
 
 -- Signs cover things: a sign that is a star covers any run of things, also none, and any
 -- other sign covers one thing that it meets.
-abbrev pub Covers : {S T : Type 0} → (S → Bool) → (S → T → Type 0) → List S → List T → Type 0
-Covers is_star Meets [] things = things ≡ []
-Covers is_star Meets (sign ∷ signs) things =
+abbrev pub CoversInOrder : {S T : Type 0} → (S → Bool) → (S → T → Type 0) → List S → List T → Type 0
+CoversInOrder is_star Meets [] things = things ≡ []
+CoversInOrder is_star Meets (sign ∷ signs) things =
     MatchBool (is_star sign)
-    (AfterRun (Covers is_star Meets signs) things)
-    (AfterOne (Meets sign) (Covers is_star Meets signs) things)
+    (AfterRun (CoversInOrder is_star Meets signs) things)
+    (AfterOne (Meets sign) (CoversInOrder is_star Meets signs) things)

@@ -21,13 +21,13 @@ abbrev pub reading_of : Text → Reading
 reading_of text = outside (signs_from 0 text)
 
 -- Each of some fronts with each of some backs behind it.
-abbrev pub joined : List (List Item) → List (List Item) → List (List Item)
-joined fronts backs = flat_map (λ front. map (λ back. front ++ back) backs) fronts
+abbrev pub combined : List (List Item) → List (List Item) → List (List Item)
+combined fronts backs = flat_map (λ front. map (λ back. front ++ back) backs) fronts
 
 -- The expanded forms of parts: one alternative is chosen in each.
 abbrev pub forms : List Part → List (List Item)
 forms [] = [] ∷ []
-forms (part ∷ parts) = joined part.choices (forms parts)
+forms (part ∷ parts) = combined part.choices (forms parts)
 
 -- The first part with which the forms pass the limit, where so many stand before the parts.
 abbrev pub too_many : ℕ → List Part → Option PatternRefused

@@ -3,7 +3,7 @@ use Rattle.std.specs.Prelude.{◌≡◌, ⊤, ℕ, Bool, true, false, ◌==◌, 
 use Rattle.hr_base.specs.Bytes.{Text}
 use Rattle.hr_pattern.specs.declared.item.Item.{Item}
 use Rattle.hr_pattern.specs.declared.item.Item.TheVariants.{Byte, Any, One}
-use Rattle.hr_pattern.specs.Covers.{Covers}
+use Rattle.hr_pattern.specs.Covers.{CoversInOrder}
 
 -- Whether an item covers any run of bytes.
 abbrev pub is_any : Item → Bool
@@ -25,7 +25,7 @@ MeetsByte Any other = ⊥
 
 -- The items of one component cover the bytes of one component.
 abbrev pub CoversBytes : List Item → Text → Type 0
-CoversBytes = Covers is_any MeetsByte
+CoversBytes = CoversInOrder is_any MeetsByte
 
 -- Whether a component covers any number of components: it is `**` and no more.
 abbrev pub is_any_path : List Item → Bool
@@ -34,4 +34,4 @@ is_any_path items = false
 
 -- The components of a form cover those of a text.
 abbrev pub CoversPath : List (List Item) → List Text → Type 0
-CoversPath = Covers is_any_path CoversBytes
+CoversPath = CoversInOrder is_any_path CoversBytes

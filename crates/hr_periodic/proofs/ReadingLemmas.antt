@@ -15,7 +15,7 @@ use Rattle.hr_periodic.specs.declared.reading.Stretch.{Stretch}
 use Rattle.hr_periodic.specs.declared.cron.Cron.{Cron}
 use Rattle.hr_periodic.specs.declared.cron.CronRefused.{CronRefused}
 use Rattle.hr_periodic.specs.declared.cron.CronRefused.TheVariants.{Field as BadField}
-use Rattle.hr_periodic.specs.Item.{covers}
+use Rattle.hr_periodic.specs.Item.{in_stretch}
 use Rattle.hr_periodic.specs.Reading.{space, limits_of, first_fault, fault_of, HasFault, StandsFor, IsField, AreFields, fields_of, six}
 
 -- a number that is marked is in the set, and any other is as before
@@ -73,9 +73,9 @@ and_off : (a b : Bool) → ((a && false) && b) ≡ false
 and_off true b = refl
 and_off false b = refl
 
--- a stretch covers nothing above its end
-pub covers-above : (s : Stretch) (k : ℕ) → s.to < k → covers s k ≡ false
-covers-above s k above =
+-- a stretch in_stretch nothing above its end
+pub in_stretch-above : (s : Stretch) (k : ℕ) → s.to < k → in_stretch s k ≡ false
+in_stretch-above s k above =
     let past : nat_le k s.to ≡ false = lt-leb k s.to above in
     rw past (and_off (nat_le s.from k) _)
 

@@ -77,6 +77,6 @@ abbrev pub item_of : Limits → Text → Option Stretch
 item_of limits text = item_in limits (cut_at slash text)
 
 -- Whether a number is one of a stretch.
-abbrev pub covers : Stretch → ℕ → Bool
-covers s number =
+abbrev pub in_stretch : Stretch → ℕ → Bool
+in_stretch s number =
     nat_le s.from number && nat_le number s.to && ((number - s.from) % s.step == 0)

@@ -11,7 +11,7 @@ use Rattle.hr_periodic.specs.declared.cron.Cron.{Cron}
 use Rattle.hr_periodic.specs.declared.cron.CronRefused.{CronRefused}
 use Rattle.hr_periodic.specs.declared.cron.CronRefused.TheVariants.{Field as BadField, Memory}
 use Rattle.hr_periodic.specs.Field.{has}
-use Rattle.hr_periodic.specs.Item.{item_of, covers, whole}
+use Rattle.hr_periodic.specs.Item.{item_of, in_stretch, whole}
 
 -- The byte between the fields of a schedule.
 abbrev pub space : ℕ
@@ -28,7 +28,7 @@ are_items limits items = list_all (λ item. is_some (item_of limits item)) items
 -- Whether one of some items has a number.
 abbrev pub have : Limits → List Text → ℕ → Bool
 have limits items number =
-    list_any (λ item. option_map_or (λ s. covers s number) (item_of limits item) false) items
+    list_any (λ item. option_map_or (λ s. in_stretch s number) (item_of limits item) false) items
 
 -- Whether a text is `*` or `?`.
 abbrev pub is_any : Text → Bool
@@ -42,7 +42,7 @@ is_field limits text = is_any text || are_items limits (split_at_byte comma text
 -- Whether the text of a field stands for a number.
 abbrev pub numbers_of : Limits → Text → ℕ → Bool
 numbers_of limits text number =
-    if is_any text then covers (whole limits) number else have limits (split_at_byte comma text) number
+    if is_any text then in_stretch (whole limits) number else have limits (split_at_byte comma text) number
 
 -- A text is that of a field, which has the numbers that the text stands for, and no others.
 pub record IsField (limits : Limits) (text : Text) (field : Field) : Type 0 where

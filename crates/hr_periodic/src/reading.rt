@@ -4,7 +4,7 @@ ghost use Rattle.hr_periodic.specs.declared.field.Field.{Field};
 ghost use Rattle.hr_periodic.specs.declared.reading.Limits.{Limits};
 ghost use Rattle.hr_text.specs.Cutting.{pieces_left, split_at_byte};
 ghost use Rattle.hr_periodic.specs.Field.{holds};
-ghost use Rattle.hr_periodic.specs.Item.{digit_of, number_of, number_in, ends_of, is_star, stepped, item_of, covers};
+ghost use Rattle.hr_periodic.specs.Item.{digit_of, number_of, number_in, ends_of, is_star, stepped, item_of, in_stretch};
 ghost use Rattle.hr_periodic.specs.Reading.{space, comma, are_items, have, is_any, is_field, IsField, AreFields, first_fault};
 
 use crate::cron::CronRefused;
@@ -28,9 +28,9 @@ pub(crate) struct Stretch {
 
 impl Stretch {
     // Whether the number is one of them.
-    fn covers(self, number: u8) -> bool
+    fn contains(self, number: u8) -> bool
         requires { 0 < self.step }
-        ensures { result ≡ covers self number }
+        ensures { result ≡ in_stretch self number }
     {
         self.from <= number && number <= self.to && (number - self.from) % self.step == 0
     }
@@ -39,11 +39,11 @@ impl Stretch {
     fn mark(self, numbers: u64) -> u64
         requires step { 0 < self.step }
         requires to { self.to < NUMBERS }
-        ensures { (k : ℕ) → holds result k ≡ (holds numbers k || covers self k) }
+        ensures { (k : ℕ) → holds result k ≡ (holds numbers k || in_stretch self k) }
     {
         let mut marked = numbers;
         for number in 0..NUMBERS {
-            if self.covers(number) {
+            if self.contains(number) {
                 marked |= 1 << number;
             }
         }
