@@ -2,8 +2,6 @@
 # How many looks and moves a second seats make at a shared board of 262,144 jobs, by one thread and by
 # four, beside a C program that does the same with plain atomic words on this machine, three times in
 # turn. Each number must be at least half of that of C beside it.
-# take eight megabytes: while it is open the program may have little more than twice that at its peak,
-# since the zeros with which it opens are made first.
 # Usage: sh bench/board.sh
 set -eu
 . "$(dirname "$0")/scratch.sh"
