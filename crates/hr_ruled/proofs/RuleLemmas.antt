@@ -1,12 +1,11 @@
 -- Lemmas on the words of specs/Rule.antt: the rule is the law of a plain board over all seats.
-use Rattle.std.proofs.Common.{◌≡◌, ℕ, zero, suc, ◌+◌, ◌*◌, ◌==◌, List, [], ◌∷◌, ◌++◌, length, set, get_or, refl, sym, ap, ◌∙◌, subst, arith}
-use Rattle.std.specs.List.{count_by}
-use mathlib.Core.Option.{some, some-injective, some-ne-none}
+use Rattle.std.proofs.Common.{◌≡◌, ℕ, ◌==◌, List, get_or, refl, sym, ap, ◌∙◌, subst}
+use mathlib.Core.Option.{some}
 use lib.ListN.{get_elem?}
 use Rattle.hr_board.specs.Past.{Past}
 use Rattle.hr_board.specs.Plain.{IsLawful, IsEnded, IsOpened}
 use Rattle.hr_board.specs.View.{Noted}
-use Rattle.hr_ruled.specs.Rule.{IsRuled, IsSeat, together, parts_of}
+use Rattle.hr_ruled.specs.Rule.{IsRuled, together, parts_of}
 use Rattle.hr_ruled.specs.Seats.{past_of_seat, plain_finals}
 use Rattle.hr_ruled.specs.declared.rule.SeatView.{SeatView}
 use Rattle.hr_ruled.proofs.SeatsLemmas.{Same, at-contains, one-all}

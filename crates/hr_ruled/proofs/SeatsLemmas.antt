@@ -6,7 +6,7 @@ use Rattle.std.proofs.lemmas.List.Sums.{sum_by-append}
 use Rattle.std.proofs.lemmas.List.Elements.{Contains-append_cases, Contains-append_left, Contains-append_right}
 use mathlib.Core.Option.{some, some-injective, some-ne-none}
 use lib.ListN.{get_elem?}
-use Rattle.hr_board.specs.View.{finals_with, opens_with}
+use Rattle.hr_board.specs.View.{finals_with}
 use Rattle.hr_ruled.specs.Rule.{parts_of}
 use Rattle.hr_ruled.specs.Seats.{plain_finals, final_moves_with}
 use Rattle.hr_ruled.specs.declared.rule.FinalMove.{FinalMove}

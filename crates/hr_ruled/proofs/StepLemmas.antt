@@ -1,9 +1,9 @@
 -- Lemmas on the steps of a seat: each keeps the rule.
-use Rattle.std.proofs.Common.{◌≡◌, ◌≢◌, ℕ, zero, suc, ◌+◌, ◌-◌, ◌*◌, ◌==◌, ◌<◌, ◌≤◌, nat_le, nat_eq, ◌&&◌, Bool, true, false, if◌then◌else◌, IsTrue, List, [], ◌∷◌, ◌++◌, length, set, get_or, refl, sym, ap, ◌∙◌, subst, inl, inr, ◌⊎◌, arith, eq-eqb, ne_eqb, length-set}
+use Rattle.std.proofs.Common.{◌≡◌, ℕ, ◌-◌, ◌*◌, ◌==◌, ◌<◌, ◌≤◌, nat_le, nat_eq, ◌&&◌, Bool, true, false, if◌then◌else◌, IsTrue, List, [], ◌∷◌, ◌++◌, set, get_or, refl, sym, ap, ◌∙◌, subst, inl, inr, arith, eq-eqb, ne_eqb, length-set}
 use Rattle.std.specs.List.{Contains, count_by, flat_map}
 use Rattle.std.proofs.lemmas.List.{append-nil, set-get_or}
 use Rattle.std.proofs.lemmas.Grind.{flat_map-append}
-use Rattle.std.proofs.lemmas.List.Elements.{Contains-append_cases, Contains-append_left, Contains-append_right, Contains-push_cases}
+use Rattle.std.proofs.lemmas.List.Elements.{Contains-append_cases, Contains-push_cases}
 use mathlib.Core.Option.{some, none}
 use mathlib.Core.Logic.{dite}
 use native.Mathlib.Decide.{ℕ_discrete}
@@ -14,12 +14,11 @@ use Rattle.atomic_table.proofs.Lists.{at_set, at_snoc}
 use Rattle.hr_base.specs.declared.status.Mark.{Mark}
 use Rattle.hr_base.specs.Status.{word_of}
 use Rattle.hr_board.specs.Moves.{IsMove, Below}
-use Rattle.hr_board.specs.Past.{Past, with_note}
-use Rattle.hr_board.specs.Plain.{IsLawful}
-use Rattle.hr_board.specs.View.{place_of, Noted, Finds, finals_with, opens_with}
+use Rattle.hr_board.specs.Past.{with_note}
+use Rattle.hr_board.specs.View.{place_of, Noted, Finds}
 use Rattle.hr_board.specs.declared.trail.Note.TheVariants.{Saw, Moved}
 use Rattle.hr_board.proofs.LawfulLaws.{look-lawful, move-lawful}
-use Rattle.hr_ruled.specs.Rule.{IsRuled, IsSeat, IsAbove, LookTells, MoveTells, together, parts_of}
+use Rattle.hr_ruled.specs.Rule.{IsRuled, IsSeat, LookTells, MoveTells, together}
 use Rattle.hr_ruled.specs.Seats.{view_of_seat, role_allows, plain_finals, seat_saw, seat_moved, seat_left, seat_given, seats_joined, spent_seat, part_of_role, final_moves_with}
 use Rattle.hr_ruled.specs.declared.rule.FinalMove.{FinalMove}
 use Rattle.hr_ruled.specs.declared.rule.Role.{Role}
@@ -89,7 +88,7 @@ moves-allowed : (v : SeatView) (place to : ℕ) → IsSeat v → IsTrue (role_al
     → Contains (final_moves_with v.role v.finals place to) final → IsTrue (role_allows final.by final.word)
 moves-allowed v place to seat may final = elim (nat_le 4 to)
     as (λ b. Contains (if b then v.finals ++ record { place = place; word = to; by = v.role } ∷ [] else v.finals) final
-        → IsTrue (role_allows final.by final.word)) [
+    → IsTrue (role_allows final.by final.word)) [
       | true ↦ λ h. elim (Contains-push_cases v.finals (record { place = place; word = to; by = v.role }) final h) [
         | inl old ↦ seat.allowed final old
         | inr new ↦ let F : FinalMove → Type 0 = λ f. IsTrue (role_allows f.by f.word) in subst F new may

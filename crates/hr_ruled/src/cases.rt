@@ -98,11 +98,7 @@ impl<N: Naming> SeatDesk<N> {
     fn stop(&mut self, job: JobNo, attempts: u8) -> Told
         requires { (1 ≤ job.0) × (job.0 ≤ self.old.board) × (1 ≤ attempts) × (attempts ≤ 4) }
     {
-        Told::Stop(stop(
-            &mut self.board.with(&mut self.control),
-            job,
-            attempts,
-        ))
+        Told::Stop(stop(&mut self.board.with(&mut self.control), job, attempts))
     }
 
     // The reader looks.

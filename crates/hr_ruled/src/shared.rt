@@ -8,8 +8,8 @@ use crate::held::Held;
 use crate::limit::ALL_PARTS;
 use crate::naming::Naming;
 use crate::rule::{
-    BoardRule, ControlSplit, LaneSplit, LookStep, MoveStep, QueueSplit, ReaderSplit, Role, SeatJoin,
-    SeatView,
+    BoardRule, ControlSplit, LaneSplit, LookStep, MoveStep, QueueSplit, ReaderSplit, Role,
+    SeatJoin, SeatView,
 };
 use crate::seat::BoardSeat;
 use atomic_table::{Closed, Table};
@@ -98,9 +98,9 @@ impl<N: Naming> SharedBoard<N> {
     pub fn join(&self, into: &mut BoardSeat<N>, seat: BoardSeat<N>)
         ensures { into.new ≡ seats_joined into.old seat }
     {
-        self.table
-            .shared
-            .join_seat::<SeatJoin>(&mut into.seat, seat.into_seat());
+        let shared = &self.table.shared;
+        let other = seat.into_seat();
+        shared.join_seat::<SeatJoin>(&mut into.seat, other);
     }
 
     /// The words by place, at the end. The seat that has all parts knows all moves.

@@ -19,12 +19,7 @@ use std::thread::{Threads, join};
 const ROUNDS: u32 = 4_000;
 
 // A seat moves a word from Pending, where it is still there.
-fn take<N: Naming>(
-    board: &SharedBoard<N>,
-    seat: &mut BoardSeat<N>,
-    job: JobNo,
-    to: Status,
-) -> bool
+fn take<N: Naming>(board: &SharedBoard<N>, seat: &mut BoardSeat<N>, job: JobNo, to: Status) -> bool
     requires job { (1 ≤ job.0) × (job.0 ≤ board.now) }
     requires moves { IsMove (Mark.At Status.Pending) (Mark.At to) }
     requires allowed { IsTrue (role_allows seat.old.role (word_of (Mark.At to))) }
@@ -118,15 +113,13 @@ fn raced<N: Naming + Send + Sync, R: Threads + Wait + Sync>(
 fn of_a_start_and_a_stop_at_one_word_just_one_wins(rt: HostRuntime) -> Result<(), Fail> {
     let opened = OpenedBoard::new(rt.alloc(), ROUNDS)?;
     let (started, stopped, words) = raced::<Brand, HostRuntime>(&rt, rt.alloc(), opened)?;
-    let mut wins = 0u32;
+    assert_eq!(rt; words.view().len(), 4 * ROUNDS as usize);
     for (at, word) in words.view().iter().step_by(4).enumerate() {
         let start = started.get(at) == Some(&true);
         let stop = stopped.get(at) == Some(&true);
         assert!(rt; start != stop, "both or neither won job {}", at + 1);
         assert_eq!(rt; *word, if start { 3 } else { 4 }, "job {}", at + 1);
-        wins += 1;
     }
-    assert_eq!(rt; wins, ROUNDS);
     assert_eq!(rt; started.first(), Some(&true));
     assert_eq!(rt; stopped.last(), Some(&true));
     Ok(())

@@ -1,4 +1,4 @@
-use Rattle.std.proofs.Common.{arith, sym, ◌∙◌, ap, subst, ◌<◌, ◌+◌, ◌-◌, ◌*◌, IsTrue}
+use Rattle.std.proofs.Common.{arith, sym, ◌∙◌, ap, subst, ◌<◌, ◌-◌, IsTrue}
 use Rattle.hr_base.specs.Status.{word_of}
 use Rattle.hr_board.specs.View.{place_of, Noted}
 use Rattle.hr_ruled.specs.Seats.{role_allows}
@@ -18,8 +18,8 @@ compare_exchange-found-requires g c =
       c.seat.invariant.0 ∙ sym b.0,
       omega (arith, within, words, b.3),
       moves _ _ _ c.args.job.0 c.args.rev c.args.from c.args.to me within c.requires.rev c.requires.moves
-      (subst (λ u. IsTrue (role_allows u.role (word_of c.args.to))) (sym is) c.requires.allowed)
-      (λ z low. subst (λ u. Noted u.notes (place_of c.args.job.0 (c.args.rev - 1)) 5) (sym is) (c.requires.opens z low)),
+          (subst (λ u. IsTrue (role_allows u.role (word_of c.args.to))) (sym is) c.requires.allowed)
+          (λ z low. subst (λ u. Noted u.notes (place_of c.args.job.0 (c.args.rev - 1)) 5) (sym is) (c.requires.opens z low)),
     )
 
 pub returns-clause-ok : goal.returns-clause-ok

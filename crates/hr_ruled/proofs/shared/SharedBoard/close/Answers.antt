@@ -1,4 +1,4 @@
-use Rattle.std.proofs.Common.{◌∷◌, [], ◌++◌, arith, sym, ◌∙◌, ap, subst}
+use Rattle.std.proofs.Common.{◌∷◌, [], ◌++◌, arith, sym, ◌∙◌, ap}
 use Rattle.hr_ruled.proofs.CloseLemmas.{take-next, closed}
 use Rattle.hr_ruled.proofs.shared.SharedBoard.close.Goals as goal
 

@@ -1,4 +1,4 @@
-use Rattle.std.proofs.Common.{arith, sym, ◌∙◌, ap, ◌<◌, ◌+◌, ◌-◌, ◌*◌}
+use Rattle.std.proofs.Common.{arith, sym, ◌∙◌, ap}
 use Rattle.hr_ruled.proofs.StepLemmas.{looks, found}
 use Rattle.hr_ruled.proofs.shared.SharedBoard.look.Goals as goal
 
