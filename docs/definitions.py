@@ -83,9 +83,7 @@ def read(path):
                 found.append((name, sentence(comment)))
             else:
                 bare.append(name)
-        if not line.strip() or name:
-            comment = []
-        elif not line.strip().startswith("--"):
+        if not line.startswith("infix"):
             comment = []
     return sentence(head), found, bare
 

@@ -1,2 +1,1 @@
-pub mod IoLemmas
-pub mod CommandLemmas
+mod CommandLemmas

@@ -40,6 +40,7 @@ fn make_buffer(alloc: Global) -> Result<Vec<u8>, AllocError>
 }
 
 // All bytes of an input, piece after piece through a buffer.
+#[tactic(auto, using(hr_cause::proofs::StreamLaws::gave_none, hr_cause::proofs::StreamLaws::gave_more))]
 fn read_pieces<S: Source>(
     alloc: Global,
     input: &mut S,
