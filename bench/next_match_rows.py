@@ -1,14 +1,17 @@
 #!/usr/bin/env python3
-"""Makes the rows of `hr_next_match`: moments, schedules, and the next matches that it must print.
+"""Makes the rows of `hr_next_match`: moments, schedules, and the next matches that it must print, and
+texts that are no schedules, with the number of the first field that is refused.
 
 The dates and weekdays are those of Python's datetime. Each day of the 3,000 that follow is looked
-at, and on a day that matches each second, in order. Run it at the top of the repository:
+at, and on a day that matches each second, in order. A text is refused by the grammar as a regular
+expression has it; the numbers beside the texts were found by hand. Run it at the top of the repository:
 
     python3 bench/next_match_rows.py
 """
 import datetime
 import os
 import random
+import re
 
 LIMITS = [(0, 59), (0, 59), (0, 23), (1, 31), (1, 12), (0, 6)]
 EPOCH = datetime.date(1970, 1, 1)
@@ -118,6 +121,77 @@ def rows():
         yield f"0 {minute} {hour} {day} {month} *", chance.randint(0, LAST)
 
 
+ITEM = re.compile(r"(?:\*(?=/)|([0-9]{1,2})(?:-([0-9]{1,2}))?)(?:/([0-9]{1,2}))?")
+
+
+def is_field(text, low, high):
+    """Whether a text is a field with these limits."""
+    if text in ("*", "?"):
+        return True
+    for item in text.split(","):
+        found = ITEM.fullmatch(item)
+        if not found:
+            return False
+        first, last, step = (None if part is None else int(part) for part in found.groups())
+        if step == 0 or any(n is not None and not low <= n <= high for n in (first, last)):
+            return False
+        if last is not None and last < first:
+            return False
+    return True
+
+
+def first_refused(text):
+    """The number, from 1, of the first field that is refused, or None."""
+    fields = text.split(" ")
+    for number, limits in enumerate(LIMITS):
+        if number >= len(fields) or not is_field(fields[number], *limits):
+            return number + 1
+    return 7 if len(fields) > 6 else None
+
+
+REFUSED = [
+    ("0 60 * * * *", 2),
+    ("60 * * * * *", 1),
+    ("* * 24 * * *", 3),
+    ("* * * 0 * *", 4),
+    ("* * * 32 * *", 4),
+    ("* * * * 0 *", 5),
+    ("* * * * 13 *", 5),
+    ("* * * * * 7", 6),
+    ("* * * * * SUN", 6),
+    ("* * * * JAN *", 5),
+    ("5-4 * * * * *", 1),
+    ("*/0 * * * * *", 1),
+    ("* 3/00 * * * *", 2),
+    ("000 * * * * *", 1),
+    ("* */100 * * * *", 2),
+    ("*,5 * * * * *", 1),
+    ("?/5 * * * * *", 1),
+    ("** * * * * *", 1),
+    ("1,,2 * * * * *", 1),
+    ("1, * * * * *", 1),
+    ("1- * * * * *", 1),
+    ("-1 * * * * *", 1),
+    ("1/2/3 * * * * *", 1),
+    ("1-2-3 * * * * *", 1),
+    ("*-5 * * * * *", 1),
+    ("* 5/ * * * *", 2),
+    ("1-70 * * * * *", 1),
+    ("+1 * * * * *", 1),
+    ("* * * * * * *", 7),
+    ("* * * * * * ", 7),
+    ("* * * * * ", 6),
+    ("* * * * *", 6),
+    ("*", 2),
+    ("", 1),
+    (" * * * * * *", 1),
+    ("*  * * * * *", 2),
+    ("*\t* * * * *", 1),
+    ("60 60 * * * * *", 1),
+    ("* * * * x", 5),
+]
+
+
 def main():
     """Writes the input and the output of the program."""
     top = os.path.join(os.path.dirname(os.path.abspath(__file__)), "..")
@@ -127,6 +201,10 @@ def main():
             found = next_match(schedule, after)
             print(after, schedule, file=asked)
             print("none" if found is None else found, file=told)
+        for text, field in REFUSED:
+            assert first_refused(text) == field, text
+            print(0, text, file=asked)
+            print("field", field, file=told)
 
 
 main()
