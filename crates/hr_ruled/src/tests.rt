@@ -1,7 +1,7 @@
 //! Seats of a shared board: the worked cases, and one job on both boards.
 ghost use Rattle.std.specs.Prelude.{◌≡◌, ◌≤◌, IfOk, length};
 ghost use Rattle.hr_board.specs.Moves.{IsMove};
-ghost use Rattle.hr_board.specs.Roles.{ServesLane, ServesQueue, ServesStop};
+ghost use Rattle.hr_board.specs.Roles.{ServesLane, ServesQueue};
 ghost use Rattle.hr_board.specs.View.{Keeps};
 ghost use Rattle.hr_ruled.specs.Rule.{HasClosed};
 
