@@ -11,10 +11,10 @@ cat >"$scratch/crates/timing/proofs/main/Invariants.antt" <<'ANTT'
 use Rattle.timing.proofs.main.Given as goal
 
 abbrev pub ghosts-one : goal.ghosts-one
-ghosts-one a = record { table = a.opened.table }
+ghosts-one g a = record { table = a.opened.table }
 
 abbrev pub ghosts-four : goal.ghosts-four
-ghosts-four a = record { table = a.opened.table }
+ghosts-four g a = record { table = a.opened.table }
 ANTT
 cat >"$scratch/crates/timing/src/main.rt" <<'RATTLE'
 //! Times looks and moves at a shared board.
@@ -44,7 +44,7 @@ struct Worker<N: Naming> {
     first: u32,
     last: u32,
     ghost roles: { (queue.role ≡ Queue) × (lane.role ≡ Lane) },
-    ghost range: { (1 ≤ first) × (last ≤ JOBS) },
+    ghost range: { (1 ≤ first) × (last ≤ 262144) },
 }
 
 fn hire<N: Naming>(

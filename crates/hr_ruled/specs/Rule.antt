@@ -46,11 +46,11 @@ pub record IsRuled (count : ℕ) (words : List Word) (seats : List SeatView) : T
   pub parts : parts_of seats ≡ ALL_PARTS
   pub each : (id : ℕ) (seat : SeatView) → get_elem? seats id ≡ some seat → IsSeat seat
 
--- what the seat that has all parts knows of the words of so many jobs, at the end: all that was moved
+-- what the seat that has all parts knows of the words of so many jobs, at the end: all their moves
 pub record IsClosed (jobs : ℕ) (words : List Word) (seat : SeatView) : Type 0 where
   -- four words for each job
   pub whole : length words ≡ 4 * jobs
-  -- each final word stands once among the seat's own final moves, and no other place does; so do the
+  -- each final word stands once among the seat's final moves, and no other place does; so do the
   -- words that were opened among its opens
   pub lawful : IsLawful words (past_of_seat seat)
   -- each of these final moves was allowed to the role under which it was made

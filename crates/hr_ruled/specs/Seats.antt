@@ -60,7 +60,7 @@ past_of_seat seat = record {
   opens = seat.opens;
 }
 
--- a seat at a board of so many jobs, as a board: it allows the moves of its role, and tells no words
+-- a seat at a board of so many jobs, as a board: it allows its role's moves, and tells no words
 abbrev pub view_of_seat : ℕ → SeatView → View
 view_of_seat jobs seat = record {
   jobs = jobs;

@@ -23,7 +23,8 @@ pub struct SeatDesk<N: Naming> {
     control: BoardSeat<N>,
     reader: BoardSeat<N>,
     ghost roles: { (queue.role ≡ Queue) × (lane.role ≡ Lane) × (control.role ≡ Control) },
-    ghost parts: { first.parts + queue.parts + lane.parts + control.parts + reader.parts ≡ ALL_PARTS },
+    ghost parts: { first.parts + queue.parts + lane.parts + control.parts + reader.parts
+        ≡ ALL_PARTS },
 }
 
 impl<N: Naming> SeatDesk<N> {

@@ -1,5 +1,5 @@
-//! The shared board: one atomic word for each job and revision, and seats that look and move without
-//! a lock, each by its own leave. Start with `opened`.
+//! The shared board: one atomic word for each job and revision, and seats that look and move them
+//! without a lock, each as its role allows. Start with `opened`.
 #![tactic(auto)]
 
 pub mod cases;

@@ -11,8 +11,8 @@ use hr_base::Memory;
 use std::alloc::Global;
 use std::marker::Model;
 
-/// A board with its first seat, which nothing names yet. Contracts see it as its table and the number
-/// of its jobs.
+/// A board with its first seat, which nothing names yet. Contracts see it as its table and how many
+/// jobs it has.
 #[derive(Drop)]
 pub struct OpenedBoard {
     table: Table<u8, SeatView, u64, BoardRule, Global>,

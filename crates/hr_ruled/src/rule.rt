@@ -1,5 +1,5 @@
-//! What a seat knows, and the rule that each atomic step keeps. Contracts alone see these values: no
-//! value of them is made. (Our own.)
+//! What a seat knows, and the rule that each atomic step keeps. Contracts alone see what a seat
+//! knows: no value of it is made. (Our own.)
 
 use atomic_table::{Join, Play, Split, TableRule};
 use std::collections::LinkedList;

@@ -18,7 +18,7 @@ use hr_board::{mark_of, place};
 use std::alloc::Global;
 use std::marker::{Model, PhantomData};
 
-/// The board that `N` names, of which threads share a `&`. Contracts see it as the number of its jobs.
+/// The board that `N` names, of which threads share a `&`. Contracts see how many jobs it has.
 #[derive(Drop)]
 pub struct SharedBoard<N: Naming> {
     table: Table<u8, SeatView, u64, BoardRule, Global>,
@@ -76,7 +76,7 @@ impl<N: Naming> SharedBoard<N> {
         Held { board: self, seat }
     }
 
-    /// Splits a seat of this role off another one, in one load. It knows what the other saw, and has
+    /// Splits a seat of this role off another one, in one load. It knows what the other saw, and
     /// moved nothing. All but a reader take one of the other's parts, and leave it one.
     pub fn split(&self, seat: &mut BoardSeat<N>, role: Role) -> BoardSeat<N>
         requires { 2 * part_of_role role ≤ seat.old.parts }
@@ -93,8 +93,8 @@ impl<N: Naming> SharedBoard<N> {
         BoardSeat::of(new)
     }
 
-    /// Joins a seat to another one, in one load: that one then has the parts of both, and knows what
-    /// both saw and moved.
+    /// Joins a seat to another one, in one load: that one then has the parts of both, and knows
+    /// what both saw and moved.
     pub fn join(&self, into: &mut BoardSeat<N>, seat: BoardSeat<N>)
         ensures { into.new ≡ seats_joined into.old seat }
     {
@@ -144,7 +144,8 @@ impl<N: Naming> SharedBoard<N> {
         requires moves { IsMove from to }
         requires allowed { IsTrue ((view_of_seat self.now seat.old).allows (word_of to)) }
         requires opens { OpensAfterError (view_of_seat self.now seat.old) job.0 rev (word_of from) }
-        ensures ok { OnOk result (Finds (view_of_seat self.now seat.old) (place_of job.0 rev) (word_of from)) }
+        ensures ok { OnOk result
+            (Finds (view_of_seat self.now seat.old) (place_of job.0 rev) (word_of from)) }
         ensures moved { OnOk result (seat.new
             ≡ seat_moved seat.old (place_of job.0 rev) (word_of from) (word_of to)) }
         ensures other { IfErr result (λ found. found ≢ from) }

@@ -1,7 +1,7 @@
 //! Seats of a shared board: the worked cases, and one job on both boards.
 ghost use Rattle.std.specs.Prelude.{◌≡◌, ◌≤◌, IfOk, length};
 ghost use Rattle.hr_board.specs.Moves.{IsMove};
-ghost use Rattle.hr_board.specs.Roles.{ServesLane, ServesQueue, ServesStop};
+ghost use Rattle.hr_board.specs.Roles.{ServesLane, ServesQueue};
 ghost use Rattle.hr_board.specs.View.{Keeps};
 ghost use Rattle.hr_ruled.specs.Rule.{HasClosed};
 
@@ -9,7 +9,7 @@ mod race;
 mod stress;
 
 use crate::cases::SeatDesk;
-use crate::{BoardSeat, Held, JOB_LIMIT, Naming, OpenedBoard, Role, SharedBoard};
+use crate::{BoardSeat, Held, JOB_LIMIT, Naming, OpenedBoard, Role};
 use hr_base::{JobNo, List, Mark, Memory, Status};
 use hr_board::cases::{Act, Told, first_difference};
 use hr_board::{Board, PlainBoard, StopAnswer, stop};
@@ -17,7 +17,8 @@ use std::alloc::Global;
 use std::marker::Brand;
 use std::test::Fail;
 
-// Does the worked acts by seats of a new board. Answers the first difference, and the words at the end.
+// Does the worked acts by seats of a new board. Answers the first difference, and the words at the
+// end.
 fn worked<N: Naming>(
     alloc: Global,
     opened: OpenedBoard,
@@ -109,8 +110,8 @@ fn by_seats<N: Naming>(alloc: Global, opened: OpenedBoard) -> Result<(Row, List<
     Ok((([opened, began, failed, late], [stopped, again]), words))
 }
 
-// One job on a plain board.
-fn on_a_plain_board(board: &mut PlainBoard) -> Row
+// One job on a plain board, and its words at the end.
+fn on_a_plain_board(board: &mut PlainBoard) -> (Row, [u64; 4])
     requires { 4 ≤ length board.old.words }
 {
     let opened = opens(board);
@@ -119,14 +120,20 @@ fn on_a_plain_board(board: &mut PlainBoard) -> Row
     let stopped = stop(board, JobNo(1), 3);
     let late = begins(board, 1, Status::Scheduled);
     let again = stop(board, JobNo(1), 3);
-    ([opened, began, failed, late], [stopped, again])
+    let words = [
+        board.look(JobNo(1), 0).word(),
+        board.look(JobNo(1), 1).word(),
+        board.look(JobNo(1), 2).word(),
+        board.look(JobNo(1), 3).word(),
+    ];
+    (([opened, began, failed, late], [stopped, again]), words)
 }
 
 #[test]
 fn one_job_gets_the_same_answers_on_both_boards(rt: HostRuntime) -> Result<(), Fail> {
     let mut plain = PlainBoard::new(rt.alloc(), 1)?;
     let opened = OpenedBoard::new(rt.alloc(), 1)?;
-    let (moves, stops) = on_a_plain_board(&mut plain);
+    let ((moves, stops), plain_words) = on_a_plain_board(&mut plain);
     let ((shared_moves, shared_stops), words) = by_seats::<Brand>(rt.alloc(), opened)?;
     let wanted = [Ok(()), Ok(()), Ok(()), Err(Mark::At(Status::Stopped))];
     let answers = [
@@ -140,6 +147,7 @@ fn one_job_gets_the_same_answers_on_both_boards(rt: HostRuntime) -> Result<(), F
     assert_eq!(rt; shared_moves, wanted);
     assert_eq!(rt; stops, answers);
     assert_eq!(rt; shared_stops, answers);
+    assert_eq!(rt; plain_words, [5, 4, 0, 0]);
     assert_eq!(rt; words.view(), [5, 4, 0, 0].as_slice());
     Ok(())
 }

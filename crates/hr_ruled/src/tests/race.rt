@@ -73,7 +73,8 @@ fn open_all<N: Naming>(board: &SharedBoard<N>, seat: &mut BoardSeat<N>)
     }
 }
 
-// A lane starts and a control stops each job. Tells which each of them moved, and the words at the end.
+// A lane starts and a control stops each job. Tells which each of them moved, and the words at the
+// end.
 fn raced<N: Naming + Send + Sync, R: Threads + Wait + Sync>(
     rt: &R,
     alloc: Global,
@@ -94,11 +95,13 @@ fn raced<N: Naming + Send + Sync, R: Threads + Wait + Sync>(
     let ((lane, started), (control, stopped)) = join(
         rt,
         move || -> (BoardSeat<N>, Vec<bool>)
-            requires { (shared.now ≡ ROUNDS) × (vec_len started ≡ ROUNDS) × (lane.role ≡ Lane) × (lane.parts ≡ 1) }
+            requires jobs { (shared.now ≡ ROUNDS) × (vec_len started ≡ ROUNDS) }
+            requires seat { (lane.role ≡ Lane) × (lane.parts ≡ 1) }
             ensures { result.0.parts ≡ 1 }
         { race(rt, wait, shared, lane, Status::Running, started) },
         move || -> (BoardSeat<N>, Vec<bool>)
-            requires { (shared.now ≡ ROUNDS) × (vec_len stopped ≡ ROUNDS) × (control.role ≡ Control) × (control.parts ≡ 1) }
+            requires jobs { (shared.now ≡ ROUNDS) × (vec_len stopped ≡ ROUNDS) }
+            requires seat { (control.role ≡ Control) × (control.parts ≡ 1) }
             ensures { result.0.parts ≡ 1 }
         { race(rt, wait, shared, control, Status::Stopped, stopped) },
     );

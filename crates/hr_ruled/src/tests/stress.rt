@@ -15,8 +15,8 @@ const JOBS: u32 = 3_000;
 // Each user goes eight times through all jobs, each time at the next revision.
 const TURNS: u32 = 24_000;
 
-// Opens, begins and ends the next revision of each job in turn. Tells by place the words to which the
-// queue and the lane were told that they moved, or 0.
+// Opens, begins and ends the next revision of each job in turn. Tells by place the words to which
+// the queue and the lane were told that they moved, or 0.
 fn run_each<N: Naming>(
     board: &SharedBoard<N>,
     mut queue: BoardSeat<N>,
@@ -91,13 +91,15 @@ fn stressed<N: Naming + Send + Sync, R: Threads + Sync>(
     let ((queue, lane, opens, ends), (control, stops)) = join(
         rt,
         move || -> (BoardSeat<N>, BoardSeat<N>, Vec<u64>, Vec<u64>)
-            requires jobs { (shared.now ≡ JOBS) × (vec_len opens ≡ 4 * JOBS) × (vec_len ends ≡ 4 * JOBS) }
+            requires jobs { shared.now ≡ JOBS }
+            requires told { (vec_len opens ≡ 4 * JOBS) × (vec_len ends ≡ 4 * JOBS) }
             requires queue { (queue.role ≡ Queue) × (queue.parts ≡ 1) }
             requires lane { (lane.role ≡ Lane) × (lane.parts ≡ 1) }
             ensures { (result.0.parts ≡ 1) × (result.1.parts ≡ 1) }
         { run_each(shared, queue, lane, opens, ends) },
         move || -> (BoardSeat<N>, Vec<u64>)
-            requires { (shared.now ≡ JOBS) × (vec_len stops ≡ 4 * JOBS) × (control.role ≡ Control) × (control.parts ≡ 1) }
+            requires jobs { (shared.now ≡ JOBS) × (vec_len stops ≡ 4 * JOBS) }
+            requires control { (control.role ≡ Control) × (control.parts ≡ 1) }
             ensures { result.0.parts ≡ 1 }
         { stop_each(shared, control, stops) },
     );
