@@ -9,6 +9,8 @@ mod lines;
 mod listing;
 mod registry;
 mod repository;
+#[cfg(test)]
+mod tests;
 
 pub use content::{BlobAt, Content, ManifestAt, RepoContent, TagAt};
 pub use registry::MemRegistry;
