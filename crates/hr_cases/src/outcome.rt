@@ -6,7 +6,7 @@ use crate::registries::{write_contents, write_tags};
 use crate::steps::{Because, Step, cause_of};
 use crate::tasks::write_tasks;
 use hr_base::{Bytes, List, Memory};
-use hr_cause::{MemSink, MemSource};
+use hr_cause::{Counted, MemSink, MemSource};
 use hr_event::Entry;
 use hr_top::{Ending, top};
 use std::alloc::Global;

@@ -1,4 +1,4 @@
-use crate::{Failed, MemSink, MemSource, Sink, Source, StdSink, StdSource};
+use crate::{Counted, Failed, MemSink, MemSource, Sink, Source, StdSink, StdSource, send};
 use hr_base::{Bytes, List};
 use std::alloc::Global;
 use std::io;
@@ -82,7 +82,9 @@ fn a_sink_in_memory_takes_whole_pieces_and_fails_by_its_list(rt: HostRuntime) ->
         assert_eq!(rt; sink.faults(), faults, "{piece}");
     }
     assert_eq!(rt; sink.sent(), b"abefgi".as_slice());
-    handed_over(sink);
+    assert_eq!(rt; send(&mut sink, b"jk"), Ok(()));
+    assert_eq!(rt; sink.into_sent().as_slice(), b"abefgijk".as_slice());
+    handed_over(MemSink::new(alloc, numbers(alloc, &[])?)?);
     Ok(())
 }
 
