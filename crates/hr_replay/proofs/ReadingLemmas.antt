@@ -1,23 +1,20 @@
 -- Lines that were read name registries that are there, and media types that can be written.
-use Rattle.std.proofs.Common.{◌≡◌, ◌+◌, ℕ, Bool, true, false, List, [], ◌∷◌, ◌++◌, Option, Some, None, Result, Ok, Err, sym, ap, subst}
+use Rattle.std.proofs.Common.{ℕ, List, [], ◌∷◌, ◌++◌, Result, Ok, Err, sym, ap, subst}
 use Rattle.std.specs.List.{AllByRecursion}
 use Rattle.hr_base.specs.declared.number.RegNo.{RegNo}
 use Rattle.hr_event.specs.declared.event.Event.{Event}
 use Rattle.hr_event.specs.declared.event.Event.TheVariants as event
 use Rattle.hr_text.specs.Escaping.{IsUnescaped}
-use Rattle.hr_script.specs.Line.{finish_of, image_of, index_of, line_meaning, manifest_of, meaning_of, orphan_of, tags_of, trigger_of, where_read}
-use Rattle.hr_script.specs.Meaning.{Follows, Meaning, each, gives, ◌>>=◌}
-use Rattle.hr_script.specs.Progress.{at_start, progress_after}
-use Rattle.hr_script.specs.Reading.{AreRead, GoesOn, IsReading}
-use Rattle.hr_script.specs.Text.{is_read, lines_of, words_of}
+use Rattle.hr_script.specs.Line.{finish_of, image_of, index_of, manifest_of, orphan_of, tags_of, trigger_of}
+use Rattle.hr_script.specs.Meaning.{each, gives}
+use Rattle.hr_script.specs.Reading.{IsReading}
 use Rattle.hr_script.specs.Word.{IsMedia, IsRegistry, layer_in, media_in, name_in, policy_in, registry_in, tag_in}
 use Rattle.hr_script.specs.declared.line.Line.{Line}
 use Rattle.hr_script.specs.declared.line.Line.TheVariants as line
-use Rattle.hr_script.specs.declared.progress.Progress.{Progress}
 use Rattle.hr_script.specs.declared.reading.Lines.{Lines}
 use Rattle.hr_script.specs.declared.reading.Numbered.{Numbered}
 use Rattle.hr_script.specs.declared.refusal.Why.{Why}
-use Rattle.hr_script.proofs.CaseLaws.{OfEachKind, line_cases, through}
+use Rattle.hr_script.proofs.CaseLaws.{OfEachKind, reading_holds, through}
 use Rattle.hr_replay.specs.Fit.{IsFit, IsNumbered, IsScripted}
 use Rattle.hr_replay.specs.Opening.{event_in, events_in}
 use Rattle.hr_replay.proofs.ContentLemmas.{AreFit}
@@ -100,41 +97,8 @@ each_fit = record {
 
 -- ---- lines one after the other
 
-abbrev FitOrNone : Result (Option Line) Why → Type 0
-FitOrNone (Ok (Some l)) = IsFit l
-FitOrNone (Ok None) = Unit {0}
-FitOrNone (Err why) = Unit {0}
-
-some_fit : (first : Meaning Line) → ((l : Line) → first (Ok l) → IsFit l) → (m : Result (Option Line) Why) → (first >>= λ meant. gives (Some meant)) m → FitOrNone m
-some_fit first fit m is = go is.0 is.1 is.2
-  where
-    go : (value : Result Line Why) → first value → Follows (λ meant. gives (Some meant)) value m → FitOrNone m
-    go (Ok l) was then = subst FitOrNone (sym then) (fit l was)
-    go (Err why) was then = subst FitOrNone (sym then) tt
-
-read_fit : (read : Bool) (meaning : Meaning (Option Line)) → ((m : Result (Option Line) Why) → meaning m → FitOrNone m) → (m : Result (Option Line) Why) → where_read read meaning m → FitOrNone m
-read_fit true meaning fit m is = fit m is
-read_fit false meaning fit m is = subst FitOrNone (sym is) tt
-
-line_fit : (progress : Progress) (text : List ℕ) (m : Result (Option Line) Why) → line_meaning progress text m → FitOrNone m
-line_fit progress text m is =
-    read_fit (is_read text) _ (λ n given. some_fit (meaning_of progress (words_of text)) (λ l was. line_cases IsFit each_fit progress (words_of text) l was) n given) m is
-
-goes_fit : (Behind : Progress → Lines → Type 0) → ((later : Progress) (found : Lines) → Behind later found → AreFit found.lines)
-    → (number : ℕ) (progress : Progress) (m : Result (Option Line) Why) (found : Lines) → FitOrNone m → GoesOn Behind number progress m found → AreFit found.lines
-goes_fit Behind rest number progress (Ok None) found fit is = rest progress found is
-goes_fit Behind rest number progress (Ok (Some l)) found fit is =
-    subst (λ (f : Lines). AreFit f.lines) (sym is.2) (fit, rest (progress_after progress l) is.0 is.1)
-goes_fit Behind rest number progress (Err why) found fit is = subst (λ (f : Lines). AreFit f.lines) (sym is) tt
-
-all_fit : (number : ℕ) (progress : Progress) (texts : List (List ℕ)) (found : Lines) → AreRead number progress texts found → AreFit found.lines
-all_fit number progress [] found is = subst (λ (f : Lines). AreFit f.lines) (sym is) tt
-all_fit number progress (text ∷ texts) found is =
-    goes_fit (λ later. AreRead (number + 1) later texts) (λ later rest given. all_fit (number + 1) later texts rest given)
-    number progress is.0 found (line_fit progress text is.0 is.1) is.2
-
 pub reading_fit : (text : List ℕ) (lines : Lines) → IsReading text lines → AreFit lines.lines
-reading_fit text lines is = all_fit 1 at_start (lines_of text) lines is
+reading_fit text lines is = reading_holds IsFit each_fit text lines is
 
 -- ---- events
 

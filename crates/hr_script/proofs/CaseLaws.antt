@@ -1,14 +1,20 @@
 -- A line that was read is of one of the kinds: what holds of each of them holds of it.
-use Rattle.std.proofs.Common.{Bool, true, false, List, [], ◌∷◌, Result, Ok, Err}
+use Rattle.std.proofs.Common.{◌+◌, ℕ, Bool, true, false, List, [], ◌∷◌, Option, Some, None, Result, Ok, Err, sym, subst}
+use Rattle.std.specs.Prelude.{⊤}
+use Rattle.std.specs.List.{AllByRecursion}
 use Rattle.hr_base.specs.Bytes.{Text}
 use Rattle.hr_script.specs.Kind.{kind_in}
-use Rattle.hr_script.specs.Line.{arguments_of, finish_of, image_of, index_of, manifest_of, meaning_of, orphan_of, tags_of, trigger_of, unless_misplaced}
-use Rattle.hr_script.specs.Meaning.{Follows, Meaning, ◌>>=◌}
-use Rattle.hr_script.specs.Progress.{is_misplaced}
+use Rattle.hr_script.specs.Line.{arguments_of, finish_of, image_of, index_of, line_meaning, manifest_of, meaning_of, orphan_of, tags_of, trigger_of, unless_misplaced, where_read}
+use Rattle.hr_script.specs.Meaning.{Follows, Meaning, gives, ◌>>=◌}
+use Rattle.hr_script.specs.Progress.{at_start, is_misplaced, progress_after}
+use Rattle.hr_script.specs.Reading.{AreRead, GoesOn, IsReading}
+use Rattle.hr_script.specs.Text.{is_read, lines_of, words_of}
 use Rattle.hr_script.specs.declared.kind.Kind.{Kind}
 use Rattle.hr_script.specs.declared.kind.Kind.TheVariants as kinds
 use Rattle.hr_script.specs.declared.line.Line.{Line}
 use Rattle.hr_script.specs.declared.progress.Progress.{Progress}
+use Rattle.hr_script.specs.declared.reading.Lines.{Lines}
+use Rattle.hr_script.specs.declared.reading.Numbered.{Numbered}
 use Rattle.hr_script.specs.declared.refusal.Why.{Why}
 
 -- P holds of each line that these words mean
@@ -50,7 +56,52 @@ placed_holds P each true kind words l is = cc is
 placed_holds P each false kind words l is = kind_holds P each kind words l is
 
 -- what holds of each line of each kind holds of each line
-pub line_cases : (P : Line → Type 0) → OfEachKind P → (progress : Progress) (words : List Text) (l : Line) → meaning_of progress words (Ok l) → P l
+line_cases : (P : Line → Type 0) → OfEachKind P → (progress : Progress) (words : List Text) (l : Line) → meaning_of progress words (Ok l) → P l
 line_cases P each progress [] l is = cc is
 line_cases P each progress (first ∷ others) l is =
     through P (kind_in first) _ (λ kind one l then. placed_holds P each (is_misplaced progress kind) kind others l then) l is
+
+-- ---- lines one after the other
+
+abbrev HoldsIfSome : (Line → Type 0) → Result (Option Line) Why → Type 0
+HoldsIfSome P (Ok (Some l)) = P l
+HoldsIfSome P (Ok None) = ⊤
+HoldsIfSome P (Err why) = ⊤
+
+some_holds : (P : Line → Type 0) (first : Meaning Line) → ((l : Line) → first (Ok l) → P l) → (m : Result (Option Line) Why)
+    → (first >>= λ meant. gives (Some meant)) m → HoldsIfSome P m
+some_holds P first holds m is = go is.0 is.1 is.2
+  where
+    go : (value : Result Line Why) → first value → Follows (λ meant. gives (Some meant)) value m → HoldsIfSome P m
+    go (Ok l) was then = subst (HoldsIfSome P) (sym then) (holds l was)
+    go (Err why) was then = subst (HoldsIfSome P) (sym then) tt
+
+where_holds : (P : Line → Type 0) (read : Bool) (meaning : Meaning (Option Line)) → ((m : Result (Option Line) Why) → meaning m → HoldsIfSome P m)
+    → (m : Result (Option Line) Why) → where_read read meaning m → HoldsIfSome P m
+where_holds P true meaning holds m is = holds m is
+where_holds P false meaning holds m is = subst (HoldsIfSome P) (sym is) tt
+
+line_holds : (P : Line → Type 0) → OfEachKind P → (progress : Progress) (text : Text) (m : Result (Option Line) Why) → line_meaning progress text m → HoldsIfSome P m
+line_holds P each progress text m is =
+    where_holds P (is_read text) _ (λ n given. some_holds P (meaning_of progress (words_of text)) (λ l was. line_cases P each progress (words_of text) l was) n given) m is
+
+-- P holds of each of these lines
+abbrev pub HoldsOfEach : (Line → Type 0) → List Numbered → Type 0
+HoldsOfEach P lines = AllByRecursion (λ numbered. P numbered.line) lines
+
+behind_holds : (P : Line → Type 0) (Behind : Progress → Lines → Type 0) → ((later : Progress) (found : Lines) → Behind later found → HoldsOfEach P found.lines)
+    → (number : ℕ) (progress : Progress) (m : Result (Option Line) Why) (found : Lines) → HoldsIfSome P m → GoesOn Behind number progress m found → HoldsOfEach P found.lines
+behind_holds P Behind rest number progress (Ok None) found holds is = rest progress found is
+behind_holds P Behind rest number progress (Ok (Some l)) found holds is =
+    subst (λ (f : Lines). HoldsOfEach P f.lines) (sym is.2) (holds, rest (progress_after progress l) is.0 is.1)
+behind_holds P Behind rest number progress (Err why) found holds is = subst (λ (f : Lines). HoldsOfEach P f.lines) (sym is) tt
+
+all_hold : (P : Line → Type 0) → OfEachKind P → (number : ℕ) (progress : Progress) (texts : List Text) (found : Lines) → AreRead number progress texts found → HoldsOfEach P found.lines
+all_hold P each number progress [] found is = subst (λ (f : Lines). HoldsOfEach P f.lines) (sym is) tt
+all_hold P each number progress (text ∷ texts) found is =
+    behind_holds P (λ later. AreRead (number + 1) later texts) (λ later rest given. all_hold P each (number + 1) later texts rest given)
+    number progress is.0 found (line_holds P each progress text is.0 is.1) is.2
+
+-- what holds of each line of each kind holds of each line that is read of a text
+pub reading_holds : (P : Line → Type 0) → OfEachKind P → (text : Text) (lines : Lines) → IsReading text lines → HoldsOfEach P lines.lines
+reading_holds P each text lines is = all_hold P each 1 at_start (lines_of text) lines is
