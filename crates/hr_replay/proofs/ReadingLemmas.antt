@@ -1,5 +1,5 @@
 -- Lines that were read name registries that are there, and media types that can be written.
-use Rattle.std.proofs.Common.{◌≡◌, ◌+◌, ℕ, Bool, true, false, List, [], ◌∷◌, ◌++◌, Option, Some, None, Result, Ok, Err, sym, ap, subst}
+use Rattle.std.proofs.Common.{ℕ, List, [], ◌∷◌, ◌++◌, Result, Ok, Err, sym, ap, subst}
 use Rattle.std.specs.List.{AllByRecursion}
 use Rattle.hr_base.specs.declared.number.RegNo.{RegNo}
 use Rattle.hr_event.specs.declared.event.Event.{Event}
