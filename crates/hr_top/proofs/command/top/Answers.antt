@@ -16,6 +16,6 @@ returns-clause-cut_off g c = λ four.
     let faults = g.S.Counted.faults in
     let sent = g.K.Stream.sent in
     let front = subst (λ (text : List ℕ). TookFront (sent c.args.out.now) text (sent c.send.new.out)) c.text.ensures c.in-Err.ensures.err in (
-      c.in-Err.ensures.cause.failed,
+      c.in-Err.ensures.cause.failed tt,
       cut_off_is c.play-outcome.result c.args.words.now (left c.args.input.now) (left c.play-outcome.new.input) (faults c.args.input.now) (faults c.play-outcome.new.input) c.play-outcome.new.kept (sent c.args.out.now) (sent c.send.new.out) c.play-outcome.ensures front (sym c.unsent_status.ensures ∙ four),
     )
