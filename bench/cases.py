@@ -398,6 +398,106 @@ def of_graphs():
     return cases
 
 
+FOREIGN = listed(model.FOREIGN, b"{}")
+ANY = listed("m", b"{}")
+GOOD = '"digest":"%s",' % model.digest_of(b"")
+
+
+def filled(pattern):
+    """The text with a descriptor for each `@`, and one of a foreign layer for each `~`."""
+    return pattern.replace("@", ANY).replace("~", FOREIGN)
+
+
+def index_with(media, digest, size):
+    """An index of a whole child and one with these members."""
+    return filled('{"schemaVersion":2,"manifests":[@,{' + media + digest + size + '"annotations":{}}]}')
+
+
+def of_manifests():
+    """Manifests that are read, and those that are refused, each alone in its script."""
+
+    def shown(media, texts):
+        """Scripts over a registry that has the blob `{}`."""
+        return ["image 1 app z\n" + manifest("a", text, media) + RUN for text in texts]
+
+    images = [filled(text) for text in [
+        '{"schemaVersion":2,"layers":[@,~,@],"config":~,"x":[1e3,null]}',
+        '{"schemaVersion":1,"schemaVersion":2,"config":@,"layers":[@],"layers":[]}',
+        "{}",
+        '{"schemaVersion":1,"config":@,"layers":[]}',
+        '{"schemaVersion":"2","config":@,"layers":[]}',
+        '{"schemaVersion":2.0,"config":@,"layers":[]}',
+        '{"schemaVersion":-2,"config":@,"layers":[]}',
+        '{"schemaVersion":null,"config":@,"layers":[]}',
+        '{"schemaVersion":2,"schemaVersion":1,"config":@,"layers":[]}',
+        '{"schemaVersion":2,"mediaType":"m","config":@,"layers":[]}',
+        '{"schemaVersion":2,"mediaType":null,"config":@,"layers":[]}',
+        '{"schemaVersion":2,"mediaType":"","manifests":[]}',
+        '{"schemaVersion":2,"config":@,"layers":[],"manifests":[]}',
+        '{"schemaVersion":2,"config":@,"layers":[],"manifests":null}',
+        '{"schemaVersion":2,"manifests":[]}',
+        '{"schemaVersion":2}',
+        '{"schemaVersion":2,"config":null,"layers":[]}',
+        '{"schemaVersion":2,"config":[@],"layers":{}}',
+        '{"schemaVersion":2,"config":@,"config":"","layers":[]}',
+        '{"schemaVersion":2,"config":@}',
+        '{"schemaVersion":2,"config":@,"layers":null}',
+        '{"schemaVersion":2,"config":{},"layers":{}}',
+        "[]", "null", '"{}"', "2", "{}{}", "[" * 128,
+    ]]
+    indexes = [filled(text) for text in [
+        '{"schemaVersion":2,"manifests":[]}',
+        '{"schemaVersion":2,"manifests":[@,~]}',
+        '{"schemaVersion":2,"config":@,"layers":[]}',
+        '{"schemaVersion":2,"config":null,"manifests":[]}',
+        '{"schemaVersion":2,"layers":null,"manifests":[]}',
+        '{"schemaVersion":2,"layers":[],"manifests":{}}',
+        '{"schemaVersion":2}',
+        '{"schemaVersion":2,"manifests":{}}',
+        '{"schemaVersion":2,"manifests":[@,[]]}',
+    ]]
+    some, size = '"mediaType":"m",', '"size":7,'
+    short = '"digest":"sha256:e3b0c44298fc1c149afbf4c8996fb92427ae41e4649b934c",'
+    other = '"digest":"md5:d41d8cd98f00b204e9800998ecf8427e",'
+    children = [index_with(*members) for members in [
+        ('"mediaType":"\\u006d\\n",', GOOD, '"size":9223372036854775807,'),
+        ("", "", ""),
+        ('"mediaType":null,', GOOD, size),
+        ('"mediaType":{},', other, ""),
+        (some, "", ""),
+        (some, '"digest":7,', size),
+        (some, short, size),
+        (some, other, size),
+        (some, '"digest":"",', '"size":-1,'),
+        (some, GOOD, ""),
+        (some, GOOD, '"size":-1,'),
+        (some, GOOD, '"size":7.0,'),
+        (some, GOOD, '"size":"7",'),
+        (some, GOOD, '"size":9223372036854775808,'),
+        (some, GOOD, '"size":18446744073709551616,'),
+    ]]
+    causes_alone = ["causes"]
+    cases = scripts("an image is read or refused", shown(model.IMAGE, images), causes_alone)
+    cases += scripts("an image of Docker is read", shown(model.DOCKER_IMAGE, images[:1]), causes_alone)
+    cases += scripts("an index is read or refused", shown(model.INDEX, indexes), causes_alone)
+    cases += scripts("a list of Docker is read or refused", shown(model.DOCKER_INDEX, indexes), causes_alone)
+    cases += scripts("a child is read or refused", shown(model.INDEX, children), causes_alone)
+    cases += scripts("texts that are no UTF-8 are no manifests", [
+        b"image 1 app z\nmanifest 1 app a " + model.IMAGE.encode() + b" " + text + b"\n" + RUN.encode()
+        for text in [b"\xef\xbb\xbf{}", b'{"\xff":1}']
+    ], causes_alone)
+    cases += scripts("other media types are refused", [
+        "image 1 app z\n" + manifest("a", "{}", media) + RUN for media in [
+            "", "application/json", model.IMAGE + ";charset=utf-8", model.IMAGE[:-1],
+            "A" + model.IMAGE[1:], "application/vnd.docker.distribution.manifest.v1+json", model.CONFIG,
+        ]
+    ], causes_alone)
+    whole = image(listed(model.LAYER, b"{}"), listed(model.LAYER, b"{}"))
+    cut = "".join(manifest("v", whole[:length], name="r%d" % length) for length in range(len(whole) + 1))
+    cases.append(Case("an image that is cut anywhere is refused", cut + RUN, causes_alone))
+    return cases
+
+
 def of_causes():
     gone = listed(model.IMAGE, model.image([b"\x09"]))
     child = model.image([b"\x01"])
@@ -511,7 +611,7 @@ def of_chance():
 
 
 GROUPS = [
-    of_scripts, of_devices, of_executions, of_tags, of_contents, of_journals, of_graphs, of_causes,
+    of_scripts, of_devices, of_executions, of_tags, of_contents, of_journals, of_graphs, of_manifests, of_causes,
     of_tasks, of_chance,
 ]
 
