@@ -4,15 +4,15 @@
 # may rise by a third, and not double. Usage: sh bench/memreg.sh
 set -eu
 . "$(dirname "$0")/scratch.sh"
-with_crates "anyhow hr_adapter hr_base hr_digest hr_memreg hr_name" hr_base hr_cause hr_digest hr_name hr_event hr_adapter hr_memreg
+with_crates "anyhow hr_old_adapter hr_base hr_digest hr_old_memreg hr_name" hr_base hr_cause hr_digest hr_name hr_event hr_old_adapter hr_old_memreg
 cat >"$scratch/crates/timing/src/main.rt" <<'RATTLE'
 //! Times tags that are put in one repository, and listed.
 #![tactic(auto)]
 
 use anyhow::{Result, bail};
-use hr_adapter::Registry;
+use hr_old_adapter::Registry;
 use hr_digest::Digest;
-use hr_memreg::MemRegistry;
+use hr_old_memreg::MemRegistry;
 use hr_name::{Name, Tag};
 use std::alloc::Global;
 use std::rt::Clock;

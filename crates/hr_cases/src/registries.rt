@@ -1,10 +1,10 @@
 //! What registries hold, a line for each tag, manifest and blob.
 
 use crate::digits::{Named, Plain};
-use hr_adapter::{RegFault, Registry, Tagged};
 use hr_base::{Bytes, Memory};
-use hr_memreg::{BlobAt, ManifestAt, RepoContent, TagAt};
 use hr_name::Name;
+use hr_old_adapter::{RegFault, Registry, Tagged};
+use hr_old_memreg::{BlobAt, ManifestAt, RepoContent, TagAt};
 use hr_top::RegHeld;
 use std::alloc::Global;
 

@@ -5,8 +5,8 @@ use crate::registries::{write_listed, write_shown};
 use hr_base::{JobNo, List, Memory, PolicyNo, RegNo};
 use hr_copy::{Log, copy_task};
 use hr_event::{TaskSpec, Turn};
-use hr_memreg::{Content, MemRegistry};
 use hr_name::{Name, Tag};
+use hr_old_memreg::{Content, MemRegistry};
 use hr_top::{Ending, RegHeld};
 use std::alloc::Global;
 

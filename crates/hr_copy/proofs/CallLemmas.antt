@@ -1,9 +1,9 @@
 -- What calls leave of a connection, one after the other.
 use Rattle.std.proofs.Common.{◌≡◌, ◌⊎◌, inl, inr, refl, sym, ap, subst, ◌∙◌}
 use Rattle.std.specs.Prelude.{Option, Some, None, IfSome, IsTrue, is_some, Result, Ok, Err, OnOk, OnErr}
-use Rattle.hr_adapter.specs.Content.{Content}
-use Rattle.hr_adapter.specs.Reg.{Asked, Called, IsSound, Reg, Retagged, BothOrNeither, changed}
-use Rattle.hr_adapter.specs.declared.fault.RegFault.{RegFault}
+use Rattle.hr_old_adapter.specs.Content.{Content}
+use Rattle.hr_old_adapter.specs.Reg.{Asked, Called, IsSound, Reg, Retagged, BothOrNeither, changed}
+use Rattle.hr_old_adapter.specs.declared.fault.RegFault.{RegFault}
 use Rattle.hr_copy.specs.Calls.{Changed, MaybeChanged, Untouched}
 
 pub untouched_itself : (reg : Reg) → Untouched reg reg

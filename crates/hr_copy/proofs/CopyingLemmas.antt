@@ -12,8 +12,8 @@ use Rattle.hr_manifest.specs.Manifest.{Parts}
 use Rattle.hr_manifest.specs.declared.child.Child.{Child}
 use Rattle.hr_manifest.specs.declared.child.ChildKind.{ChildKind}
 use Rattle.hr_manifest.specs.declared.child.ChildKind.TheVariants as kind
-use Rattle.hr_adapter.specs.Content.{Content, blob_at, manifest_at, with_blob, with_manifest}
-use Rattle.hr_adapter.proofs.ContentLaws.{blob_at-with_blob-same, manifest_at-with_manifest-same}
+use Rattle.hr_old_adapter.specs.Content.{Content, blob_at, manifest_at, with_blob, with_manifest}
+use Rattle.hr_old_adapter.proofs.ContentLaws.{blob_at-with_blob-same, manifest_at-with_manifest-same}
 use Rattle.hr_graph.specs.Meeting.{moved_to, settled}
 use Rattle.hr_graph.specs.Sound.{ComesLast, IsBelow, IsBelowAs, IsPassed, IsPassedAs, IsSound}
 use Rattle.hr_graph.specs.Step as step
@@ -22,14 +22,14 @@ use Rattle.hr_graph.specs.declared.need.Need.{Need}
 use Rattle.hr_graph.specs.declared.opened.Finished.{Finished}
 use Rattle.hr_graph.specs.declared.opened.Opened.{Opened}
 use Rattle.hr_graph.proofs.WalkLaws.{known_all}
-use Rattle.hr_journal.specs.Graph.{Closed, Stands, StandsUnder}
-use Rattle.hr_journal.specs.Grows.{Grows}
-use Rattle.hr_journal.specs.Promise.{Promise}
-use Rattle.hr_journal.specs.Puts.{Does, MaybePut}
-use Rattle.hr_journal.specs.Says.{last, read_under, child_read}
-use Rattle.hr_journal.specs.Still.{IsStill, PutsNoTag}
-use Rattle.hr_journal.proofs.ListLaws.{each_then}
-use Rattle.hr_journal.proofs.PromiseLaws.{does_nothing, nothing_puts_no_tag, closed_made, stands_closed_grow, does_grow, each_before, promise_on}
+use Rattle.hr_old_journal.specs.Graph.{Closed, Stands, StandsUnder}
+use Rattle.hr_old_journal.specs.Grows.{Grows}
+use Rattle.hr_old_journal.specs.Promise.{Promise}
+use Rattle.hr_old_journal.specs.Puts.{Does, MaybePut}
+use Rattle.hr_old_journal.specs.Says.{last, read_under, child_read}
+use Rattle.hr_old_journal.specs.Still.{IsStill, PutsNoTag}
+use Rattle.hr_old_journal.proofs.ListLaws.{each_then}
+use Rattle.hr_old_journal.proofs.PromiseLaws.{does_nothing, nothing_puts_no_tag, closed_made, stands_closed_grow, does_grow, each_before, promise_on}
 use Rattle.hr_copy.specs.Going.{Copying, IsReadable, Standing, WereRead, stored_of}
 use Rattle.hr_copy.specs.Outcome.{entry_of}
 use Rattle.hr_copy.proofs.LastLemmas.{last_blob, last_child, read_child, read_moved, read_still}

@@ -9,7 +9,7 @@ use Rattle.hr_event.specs.declared.entry.What.TheVariants.{Looked, ReadTag, Show
 use Rattle.hr_event.specs.declared.reference.Reference.{Reference}
 use Rattle.hr_event.specs.declared.task.TaskSpec.{TaskSpec}
 use Rattle.hr_manifest.specs.Manifest.{Parts}
-use Rattle.hr_adapter.specs.Reg.{Reg}
+use Rattle.hr_old_adapter.specs.Reg.{Reg}
 use Rattle.hr_copy.specs.Calls.{IsDecided, ShowsBy}
 use Rattle.hr_copy.specs.Outcome.{Decides, IsStep, Obeys}
 

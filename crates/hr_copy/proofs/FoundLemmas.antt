@@ -8,12 +8,12 @@ use Rattle.hr_event.specs.declared.entry.What.TheVariants.{ReadTag}
 use Rattle.hr_event.specs.declared.reference.Fetched.{Fetched}
 use Rattle.hr_event.specs.declared.reference.Reference.TheVariants as by
 use Rattle.hr_event.specs.declared.task.Turn.{Turn}
-use Rattle.hr_adapter.specs.Content.{Content, fetch_at}
-use Rattle.hr_adapter.specs.Reg.{AreShown, IsSound, Reg, Row}
-use Rattle.hr_journal.specs.Promise.{WereShown}
-use Rattle.hr_journal.specs.Still.{ReadsNoTag}
-use Rattle.hr_journal.proofs.ListLaws.{contains_cases}
-use Rattle.hr_journal.proofs.PromiseLaws.{read_on, read_row}
+use Rattle.hr_old_adapter.specs.Content.{Content, fetch_at}
+use Rattle.hr_old_adapter.specs.Reg.{AreShown, IsSound, Reg, Row}
+use Rattle.hr_old_journal.specs.Promise.{WereShown}
+use Rattle.hr_old_journal.specs.Still.{ReadsNoTag}
+use Rattle.hr_old_journal.proofs.ListLaws.{contains_cases}
+use Rattle.hr_old_journal.proofs.PromiseLaws.{read_on, read_row}
 use Rattle.hr_copy.specs.Calls.{Untouched}
 use Rattle.hr_copy.specs.Going.{AreFound, Found, Sourced}
 use Rattle.hr_copy.specs.Outcome.{Wrote, entry_of}

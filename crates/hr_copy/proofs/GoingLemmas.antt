@@ -10,18 +10,18 @@ use Rattle.hr_event.specs.declared.entry.What.TheVariants.{GotBlob, HasBlob, Loo
 use Rattle.hr_event.specs.declared.task.TaskSpec.{TaskSpec}
 use Rattle.hr_event.specs.declared.task.Turn.{Turn}
 use Rattle.hr_manifest.specs.Manifest.{Parts}
-use Rattle.hr_adapter.specs.Content.{Content, blob_at, with_blob, with_manifest}
-use Rattle.hr_adapter.specs.Reg.{Reg}
+use Rattle.hr_old_adapter.specs.Content.{Content, blob_at, with_blob, with_manifest}
+use Rattle.hr_old_adapter.specs.Reg.{Reg}
 use Rattle.hr_graph.specs.Sound.{IsSound}
 use Rattle.hr_graph.specs.Step.{begun, outcome, with_root}
 use Rattle.hr_graph.specs.Walk.{View, newest_manifest}
 use Rattle.hr_graph.specs.declared.need.Given.TheVariants as given
 use Rattle.hr_graph.specs.declared.need.Need.TheVariants as need
 use Rattle.hr_graph.proofs.WalkLaws.{comes_last}
-use Rattle.hr_journal.specs.Promise.{Promise}
-use Rattle.hr_journal.specs.Says.{last, read_under}
-use Rattle.hr_journal.specs.Still.{IsStill}
-use Rattle.hr_journal.proofs.PromiseLaws.{promise_on, promise_still}
+use Rattle.hr_old_journal.specs.Promise.{Promise}
+use Rattle.hr_old_journal.specs.Says.{last, read_under}
+use Rattle.hr_old_journal.specs.Still.{IsStill}
+use Rattle.hr_old_journal.proofs.PromiseLaws.{promise_on, promise_still}
 use Rattle.hr_copy.specs.Calls.{Changed, MaybeChanged, Untouched}
 use Rattle.hr_copy.specs.Going.{Copying, Going, IsReadable, Promised, stored_of}
 use Rattle.hr_copy.specs.Outcome.{IsSilent, Wrote, entry_of}

@@ -15,8 +15,8 @@ use Rattle.hr_manifest.specs.Manifest.{Parts}
 use Rattle.hr_graph.specs.Meeting.{moved_to}
 use Rattle.hr_graph.specs.Walk.{is_open}
 use Rattle.hr_graph.specs.declared.opened.Opened.{Opened}
-use Rattle.hr_journal.specs.Says.{last, is_of, read_under, child_read, blob_read}
-use Rattle.hr_journal.specs.Still.{ReadsNoTag}
+use Rattle.hr_old_journal.specs.Says.{last, is_of, read_under, child_read, blob_read}
+use Rattle.hr_old_journal.specs.Still.{ReadsNoTag}
 use Rattle.std.specs.Cmp.Lexicographic.{nat_list_eq_equiv}
 use Rattle.hr_copy.specs.Going.{IsReadable, LastRead, WereRead, stored_of}
 use Rattle.hr_copy.specs.Outcome.{Wrote, entry_of}

@@ -11,20 +11,20 @@ use Rattle.hr_event.specs.declared.entry.What.TheVariants.{Show}
 use Rattle.hr_event.specs.declared.reference.Reference.TheVariants as by
 use Rattle.hr_event.specs.declared.task.Turn.{Turn}
 use Rattle.hr_manifest.specs.Manifest.{Parts}
-use Rattle.hr_adapter.specs.Content.{Content, head_at, with_manifest, with_tag}
-use Rattle.hr_adapter.specs.Put.{manifest_alone, put_under}
-use Rattle.hr_adapter.specs.Reg.{Reg}
+use Rattle.hr_old_adapter.specs.Content.{Content, head_at, with_manifest, with_tag}
+use Rattle.hr_old_adapter.specs.Put.{manifest_alone, put_under}
+use Rattle.hr_old_adapter.specs.Reg.{Reg}
 use Rattle.hr_graph.specs.Sound.{Asks, HasPassed, IsChain, IsPassed, IsReady, IsSound}
 use Rattle.hr_graph.specs.Walk.{View, newest_manifest}
 use Rattle.hr_graph.specs.declared.need.Need.{Need}
 use Rattle.hr_graph.specs.declared.need.Need.TheVariants as need
 use Rattle.hr_graph.specs.declared.opened.Opened.{Opened}
 use Rattle.hr_graph.proofs.WalkLaws.{all_passed, comes_last}
-use Rattle.hr_journal.specs.Graph.{StandsUnder}
-use Rattle.hr_journal.specs.Promise.{IsPut, Promise}
-use Rattle.hr_journal.specs.Puts.{IsLeft, MaybePutTag, PutsTag, LeavesTag}
-use Rattle.hr_journal.specs.Says.{last, read_under}
-use Rattle.hr_journal.proofs.PromiseLaws.{each_before, promise_on, promise_shows_under}
+use Rattle.hr_old_journal.specs.Graph.{StandsUnder}
+use Rattle.hr_old_journal.specs.Promise.{IsPut, Promise}
+use Rattle.hr_old_journal.specs.Puts.{IsLeft, MaybePutTag, PutsTag, LeavesTag}
+use Rattle.hr_old_journal.specs.Says.{last, read_under}
+use Rattle.hr_old_journal.proofs.PromiseLaws.{each_before, promise_on, promise_shows_under}
 use Rattle.hr_copy.specs.Calls.{IsDecided, ShowsBy, ShowsTold, Untouched}
 use Rattle.hr_copy.specs.Going.{Copying, Going, IsReadable, LastRead, Promised, WereRead, stored_of}
 use Rattle.hr_copy.specs.Outcome.{Decides, entry_of}

@@ -14,8 +14,8 @@ use Rattle.hr_event.specs.declared.entry.What.{What}
 use Rattle.hr_event.specs.declared.entry.What.TheVariants.{Show}
 use Rattle.hr_event.specs.declared.task.TaskSpec.{TaskSpec}
 use Rattle.hr_event.specs.declared.task.Turn.{Turn}
-use Rattle.hr_journal.specs.Still.{IsStill, ReadsNoTag}
-use Rattle.hr_journal.proofs.ListLaws.{contains_first, contains_later}
+use Rattle.hr_old_journal.specs.Still.{IsStill, ReadsNoTag}
+use Rattle.hr_old_journal.proofs.ListLaws.{contains_first, contains_later}
 use Rattle.hr_copy.specs.Outcome.{IsFinished, IsSilent, IsStep, Obeys, Wrote, entry_of}
 
 each_after : {X : Type 0} (P : X → Type 0) (xs ys : List X) → AllByRecursion P xs → AllByRecursion P ys

@@ -4,9 +4,9 @@ use Rattle.hr_event.specs.declared.entry.How.{How}
 use Rattle.hr_event.specs.declared.entry.How.TheVariants as how
 use Rattle.hr_event.specs.declared.reference.Reference.{Reference}
 use Rattle.hr_manifest.specs.Manifest.{Parts}
-use Rattle.hr_adapter.specs.Content.{Content}
-use Rattle.hr_adapter.specs.Put.{manifest_alone, put_under}
-use Rattle.hr_adapter.specs.Reg.{Reg, changed}
+use Rattle.hr_old_adapter.specs.Content.{Content}
+use Rattle.hr_old_adapter.specs.Put.{manifest_alone, put_under}
+use Rattle.hr_old_adapter.specs.Reg.{Reg, changed}
 
 -- it was only read: where it is quiet its content stays
 pub record Untouched (before after : Reg) : Type 0 where

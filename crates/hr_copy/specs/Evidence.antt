@@ -12,8 +12,8 @@ use Rattle.hr_event.specs.declared.entry.What.TheVariants.{Ended}
 use Rattle.hr_event.specs.declared.reference.Reference.{Reference}
 use Rattle.hr_event.specs.declared.reference.Reference.TheVariants as by
 use Rattle.hr_event.specs.declared.task.TaskSpec.{TaskSpec}
-use Rattle.hr_adapter.specs.Content.{Content, blob_at, fetch_at, manifest_at}
-use Rattle.hr_adapter.specs.Reg.{Reg}
+use Rattle.hr_old_adapter.specs.Content.{Content, blob_at, fetch_at, manifest_at}
+use Rattle.hr_old_adapter.specs.Reg.{Reg}
 
 -- the connection to this registry failed: its count of faults rose so, to what it is now
 pub record HasFailed (blamed reg : RegNo) (before after faults : ℕ) : Type 0 where

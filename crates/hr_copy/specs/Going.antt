@@ -15,12 +15,12 @@ use Rattle.hr_manifest.specs.declared.child.ChildKind.TheVariants as kind
 use Rattle.hr_graph.specs.Walk.{View, left_of}
 use Rattle.hr_graph.specs.declared.need.Need.TheVariants as need
 use Rattle.hr_graph.specs.declared.opened.Opened.{Opened}
-use Rattle.hr_adapter.specs.Content.{Content, blob_at, fetch_at}
-use Rattle.hr_adapter.specs.Reg.{Reg}
-use Rattle.hr_journal.specs.Graph.{Closed, Stands}
-use Rattle.hr_journal.specs.OneEach.{OneEach}
-use Rattle.hr_journal.specs.Promise.{WereShown, Promise}
-use Rattle.hr_journal.specs.Says.{last, read_under, child_read}
+use Rattle.hr_old_adapter.specs.Content.{Content, blob_at, fetch_at}
+use Rattle.hr_old_adapter.specs.Reg.{Reg}
+use Rattle.hr_old_journal.specs.Graph.{Closed, Stands}
+use Rattle.hr_old_journal.specs.OneEach.{OneEach}
+use Rattle.hr_old_journal.specs.Promise.{WereShown, Promise}
+use Rattle.hr_old_journal.specs.Says.{last, read_under, child_read}
 
 -- what a walk has finished stands in the repository, with the graph below it
 pub record Standing (c : Content) (repo : List ℕ) (view : View) : Type 0 where

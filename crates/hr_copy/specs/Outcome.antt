@@ -12,7 +12,7 @@ use Rattle.hr_event.specs.declared.entry.What.{What}
 use Rattle.hr_event.specs.declared.entry.What.TheVariants.{Began, ReadTag, Looked, ReadChild, HasBlob, GotBlob, PutBlob, PutChild, Show, Ended, Dropped}
 use Rattle.hr_event.specs.declared.task.TaskSpec.{TaskSpec}
 use Rattle.hr_event.specs.declared.task.Turn.{Turn}
-use Rattle.hr_journal.specs.Still.{IsStill, ReadsNoTag}
+use Rattle.hr_old_journal.specs.Still.{IsStill, ReadsNoTag}
 
 -- an entry of a turn
 abbrev pub entry_of : Turn → What → Entry

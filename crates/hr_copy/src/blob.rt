@@ -3,8 +3,8 @@
 ghost use Rattle.std.specs.Prelude.{◌≡◌, ◌≤◌, ◌<◌, ◌∷◌, ℕ, List, IfOk, IfSome, OnErr, OnOk, IsTrue, Result, is_ok, length, option_map, IfErr};
 ghost use Rattle.hr_digest.specs.Digest.{digest_of};
 ghost use Rattle.hr_event.specs.declared.entry.What.TheVariants.{GotBlob, HasBlob, PutBlob};
-ghost use Rattle.hr_adapter.specs.Content.{Content, blob_at, with_blob};
-ghost use Rattle.hr_adapter.specs.Reg.{Reg};
+ghost use Rattle.hr_old_adapter.specs.Content.{Content, blob_at, with_blob};
+ghost use Rattle.hr_old_adapter.specs.Reg.{Reg};
 ghost use Rattle.hr_copy.specs.Evidence.{Evidence};
 ghost use Rattle.hr_copy.specs.Calls.{Changed, MaybeChanged, Untouched};
 ghost use Rattle.hr_copy.specs.Going.{GoesOn, Going, Promised};
@@ -12,11 +12,11 @@ ghost use Rattle.hr_copy.specs.Outcome.{IsSilent, IsStep, Wrote, entry_of};
 
 use crate::Log;
 use crate::cause::{of_fault, of_walk};
-use hr_adapter::Registry;
 use hr_base::Bytes;
 use hr_digest::Digest;
 use hr_event::{Cause, Entry, Reference, TaskSpec, Turn, What};
 use hr_graph::{Given, Need, Walk};
+use hr_old_adapter::Registry;
 
 /// Looks for the blob of that digest at the destination, and tells the walk.
 pub(crate) fn find_blob<D: Registry>(

@@ -2,15 +2,15 @@
 ghost use Rattle.std.specs.Prelude.{◌≡◌, ◌⊎◌};
 ghost use Rattle.hr_cause.specs.Stream.{Rose};
 ghost use Rattle.hr_event.specs.declared.task.TaskSpec.{TaskSpec};
-ghost use Rattle.hr_adapter.specs.Reg.{Reg};
+ghost use Rattle.hr_old_adapter.specs.Reg.{Reg};
 ghost use Rattle.hr_copy.specs.Evidence.{Evidence};
 
-use hr_adapter::RegFault;
 use hr_base::RegNo;
 use hr_digest::Digest;
 use hr_event::Cause;
 use hr_graph::WalkRefused;
 use hr_manifest::Unreadable;
+use hr_old_adapter::RegFault;
 
 /// The cause of a registry that gave no answer, with its count of faults before and after.
 pub(crate) fn of_fault(fault: RegFault, reg: RegNo, before: u64, after: u64) -> Cause

@@ -3,8 +3,8 @@
 ghost use Rattle.std.specs.Prelude.{◌≡◌, ◌≢◌, ◌≤◌, ◌<◌, ◌∷◌, ℕ, List, IfOk, OnErr, OnOk, is_ok, IfErr};
 ghost use Rattle.hr_digest.specs.Digest.{digest_of};
 ghost use Rattle.hr_event.specs.declared.entry.What.TheVariants.{PutChild, ReadChild};
-ghost use Rattle.hr_adapter.specs.Content.{Content, with_manifest};
-ghost use Rattle.hr_adapter.specs.Reg.{Reg};
+ghost use Rattle.hr_old_adapter.specs.Content.{Content, with_manifest};
+ghost use Rattle.hr_old_adapter.specs.Reg.{Reg};
 ghost use Rattle.hr_copy.specs.Evidence.{Evidence};
 ghost use Rattle.hr_copy.specs.Calls.{Changed, MaybeChanged, Untouched};
 ghost use Rattle.hr_copy.specs.Going.{GoesOn, Going, IsReadable, Promised, stored_of};
@@ -12,11 +12,11 @@ ghost use Rattle.hr_copy.specs.Outcome.{IsSilent, IsStep, Wrote, entry_of};
 
 use crate::Log;
 use crate::cause::{of_fault, of_manifest, of_walk};
-use hr_adapter::Registry;
 use hr_digest::Digest;
 use hr_event::{Cause, Entry, Fetched, Reference, TaskSpec, Turn, What};
 use hr_graph::{Given, Need, Walk};
 use hr_manifest::Manifest;
+use hr_old_adapter::Registry;
 use std::alloc::Global;
 
 /// Reads the child manifest of that digest, which the walk needs, and gives it to the walk.

@@ -7,9 +7,9 @@ ghost use Rattle.hr_event.specs.declared.entry.How.{How};
 ghost use Rattle.hr_event.specs.declared.entry.What.TheVariants.{ReadTag};
 ghost use Rattle.hr_event.specs.declared.reference.Reference.TheVariants as by;
 ghost use Rattle.hr_event.specs.declared.task.TaskSpec.{TaskSpec};
-ghost use Rattle.hr_adapter.specs.Content.{Content, fetch_at, head_at};
-ghost use Rattle.hr_adapter.specs.Reg.{IsSound, Reg};
-ghost use Rattle.hr_journal.specs.Still.{IsStill};
+ghost use Rattle.hr_old_adapter.specs.Content.{Content, fetch_at, head_at};
+ghost use Rattle.hr_old_adapter.specs.Reg.{IsSound, Reg};
+ghost use Rattle.hr_old_journal.specs.Still.{IsStill};
 ghost use Rattle.hr_copy.specs.Evidence.{Evidence};
 ghost use Rattle.hr_copy.specs.Calls.{IsDecided, ShowsBy, Untouched};
 ghost use Rattle.hr_copy.specs.Going.{Found, Going, IsReadable, LastRead, Promised, Sourced};
@@ -17,12 +17,12 @@ ghost use Rattle.hr_copy.specs.Outcome.{Decides, IsFinished, IsStep, Obeys, Wrot
 
 use crate::Log;
 use crate::cause::{of_fault, of_manifest};
-use hr_adapter::Registry;
 use hr_digest::Digest;
 use hr_event::{Cause, Entry, Fetched, How, Reference, TaskSpec, Turn, What};
 use hr_graph::{Need, Walk};
 use hr_manifest::Manifest;
 use hr_name::Tag;
+use hr_old_adapter::Registry;
 use std::alloc::Global;
 
 /// The manifest that the tag names at the source, with its digest.

@@ -3,8 +3,8 @@
 ghost use Rattle.std.specs.Prelude.{◌≡◌, ◌≢◌, ◌≤◌, ℕ, List, Contains, OnErr, OnOk, Some, IfErr};
 ghost use Rattle.std.specs.Bool.{OnTrue, OnFalse};
 ghost use Rattle.hr_digest.specs.Digest.{digest_of};
-ghost use Rattle.hr_adapter.specs.Content.{Content};
-ghost use Rattle.hr_journal.specs.Says.{last, read_under};
+ghost use Rattle.hr_old_adapter.specs.Content.{Content};
+ghost use Rattle.hr_old_journal.specs.Says.{last, read_under};
 ghost use Rattle.hr_copy.specs.Evidence.{Evidence};
 ghost use Rattle.hr_copy.specs.Calls.{Untouched};
 ghost use Rattle.hr_copy.specs.Going.{Found, GoesOn, Going, IsReadable, Promised, Sourced, stored_of};
@@ -15,12 +15,12 @@ use crate::blob::{copy_blob, find_blob};
 use crate::cause::of_walk;
 use crate::child::{put_child, take_child};
 use crate::root::{look, read_root, show};
-use hr_adapter::Registry;
 use hr_digest::Digest;
 use hr_event::{Cause, TaskSpec, Turn};
 use hr_graph::{Need, Walk};
 use hr_manifest::Manifest;
 use hr_name::Tag;
+use hr_old_adapter::Registry;
 use std::alloc::Global;
 
 /// Copies one tag with its whole graph.

@@ -3,7 +3,7 @@
 ghost use Rattle.std.specs.Prelude.{◌≡◌, ◌≤◌, ℕ, List, IfErr, IfOk, None, OnErr, OnOk, Ok, Some};
 ghost use Rattle.std.specs.List.{AllByRecursion};
 ghost use Rattle.hr_base.specs.declared.status.Status.TheVariants.{Error, Success};
-ghost use Rattle.hr_adapter.specs.Content.{Content};
+ghost use Rattle.hr_old_adapter.specs.Content.{Content};
 ghost use Rattle.hr_copy.specs.Evidence.{Evidence, NewestIsCaused};
 ghost use Rattle.hr_copy.specs.Calls.{Untouched};
 ghost use Rattle.hr_copy.specs.Going.{Found, Promised, Sourced};
@@ -11,9 +11,9 @@ ghost use Rattle.hr_copy.specs.Outcome.{EndsBy, IsFinished, Obeys, Ran, Wrote};
 
 use crate::Log;
 use crate::tag::copy_tag;
-use hr_adapter::Registry;
 use hr_base::{Memory, Status};
 use hr_event::{Cause, Entry, TaskSpec, Turn, What};
+use hr_old_adapter::Registry;
 use std::alloc::Global;
 
 /// Copies the tags of a task, each with its whole graph, from the source to the destination.

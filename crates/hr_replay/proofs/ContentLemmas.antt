@@ -9,9 +9,9 @@ use Rattle.hr_manifest.specs.Canonical.{image_media, image_text, index_media, in
 use Rattle.hr_text.specs.Escaping.{IsUnescaped}
 use Rattle.hr_text.proofs.EscapeLaws.{unescaped_text}
 use Rattle.hr_manifest.specs.declared.child.Child.{Child}
-use Rattle.hr_adapter.specs.Content.{Content, blob_at, manifest_at, named_at, repo_at, tag_at, with_blob, with_tag}
-use Rattle.hr_adapter.proofs.ContentLaws.{manifest_at-with_blob, manifest_at-with_manifest-cases, manifest_at-with_manifest-same, manifest_at-with_tag}
-use Rattle.hr_adapter.proofs.HonestLaws.{Honest-with_blob, Honest-with_manifest, Honest-with_tag}
+use Rattle.hr_old_adapter.specs.Content.{Content, blob_at, manifest_at, named_at, repo_at, tag_at, with_blob, with_tag}
+use Rattle.hr_old_adapter.proofs.ContentLaws.{manifest_at-with_blob, manifest_at-with_manifest-cases, manifest_at-with_manifest-same, manifest_at-with_tag}
+use Rattle.hr_old_adapter.proofs.HonestLaws.{Honest-with_blob, Honest-with_manifest, Honest-with_tag}
 use Rattle.hr_script.specs.declared.line.Line.{Line}
 use Rattle.hr_script.specs.declared.line.Line.TheVariants as line
 use Rattle.hr_script.specs.declared.reading.Numbered.{Numbered}

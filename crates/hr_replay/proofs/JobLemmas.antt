@@ -11,13 +11,13 @@ use Rattle.hr_event.specs.declared.entry.What.TheVariants.{Began, Ended}
 use Rattle.hr_event.specs.declared.reference.Reference.TheVariants as by
 use Rattle.hr_event.specs.declared.task.TaskSpec.{TaskSpec}
 use Rattle.hr_event.specs.declared.task.Turn.{Turn}
-use Rattle.hr_adapter.specs.Content.{Content, fetch_at}
-use Rattle.hr_adapter.specs.Reg.{Reg}
+use Rattle.hr_old_adapter.specs.Content.{Content, fetch_at}
+use Rattle.hr_old_adapter.specs.Reg.{Reg}
 use Rattle.hr_copy.specs.Evidence.{Evidence, HasOther, IsCaused, IsGone, NewestIsCaused}
 use Rattle.hr_copy.specs.Going.{AreFound}
 use Rattle.hr_copy.specs.Outcome.{Obeys, Ran, entry_of}
-use Rattle.hr_journal.specs.Shown.{AreAlike}
-use Rattle.hr_journal.proofs.ListLaws.{contains_cases}
+use Rattle.hr_old_journal.specs.Shown.{AreAlike}
+use Rattle.hr_old_journal.proofs.ListLaws.{contains_cases}
 use Rattle.hr_replay.specs.Run.{AreCaused, AreFinal, EndsShown, IsShownBy, NewestShown, RanJobs, end_of, from_of, task_of, to_of, turn_of}
 
 -- ---- the entries of one job

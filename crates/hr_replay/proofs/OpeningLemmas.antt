@@ -4,8 +4,8 @@ use Rattle.std.specs.List.{AllByRecursion}
 use Rattle.std.proofs.lemmas.Grind.{replicate_next}
 use Rattle.std.proofs.lemmas.List.{append-nil, map-append}
 use Rattle.hr_event.specs.declared.event.Event.{Event}
-use Rattle.hr_adapter.specs.Content.{Content}
-use Rattle.hr_memreg.specs.Mem.{Mem}
+use Rattle.hr_old_adapter.specs.Content.{Content}
+use Rattle.hr_old_memreg.specs.Mem.{Mem}
 use Rattle.hr_script.specs.declared.reading.Numbered.{Numbered}
 use Rattle.hr_replay.specs.Fit.{IsFit, IsWell}
 use Rattle.hr_replay.specs.Opening.{Contents, after_line, after_lines, contents_of, event_in, events_in, goes_on, no_contents}

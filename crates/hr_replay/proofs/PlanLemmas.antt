@@ -5,10 +5,10 @@ use Rattle.std.proofs.lemmas.Bool.Decides.{nat_tests}
 use Rattle.std.proofs.lemmas.Grind.{flat_map-append}
 use Rattle.std.proofs.lemmas.List.{append-nil, take_all, take_more}
 use Rattle.hr_event.specs.declared.task.TaskSpec.{TaskSpec}
-use Rattle.hr_adapter.specs.Content.{Content}
-use Rattle.hr_adapter.specs.Listing.{repos_of, tags_of}
-use Rattle.hr_adapter.specs.declared.listed.Tagged.{Tagged}
-use Rattle.hr_adapter.specs.declared.registry.TheConstants.{LIST_LIMIT}
+use Rattle.hr_old_adapter.specs.Content.{Content}
+use Rattle.hr_old_adapter.specs.Listing.{repos_of, tags_of}
+use Rattle.hr_old_adapter.specs.declared.listed.Tagged.{Tagged}
+use Rattle.hr_old_adapter.specs.declared.registry.TheConstants.{LIST_LIMIT}
 use Rattle.hr_replay.specs.Plan.{are_listed, is_short, plan_of, spec_of, specs_for, specs_of}
 
 le_true : (m n : ℕ) → m ≤ n → nat_le m n ≡ true

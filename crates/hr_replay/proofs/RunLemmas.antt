@@ -8,10 +8,10 @@ use Rattle.hr_event.specs.declared.entry.Entry.{Entry}
 use Rattle.hr_event.specs.declared.event.Event.{Event}
 use Rattle.hr_event.specs.declared.event.Event.TheVariants as event
 use Rattle.hr_event.specs.declared.task.TaskSpec.{TaskSpec}
-use Rattle.hr_adapter.specs.Content.{Content, Honest}
+use Rattle.hr_old_adapter.specs.Content.{Content, Honest}
 use Rattle.hr_copy.specs.Going.{AreFound}
-use Rattle.hr_journal.specs.Promise.{Promise}
-use Rattle.hr_journal.proofs.PromiseLaws.{promise_alike, promise_opens}
+use Rattle.hr_old_journal.specs.Promise.{Promise}
+use Rattle.hr_old_journal.proofs.PromiseLaws.{promise_alike, promise_opens}
 use Rattle.hr_replay.specs.Fit.{IsScripted}
 use Rattle.hr_replay.specs.Opening.{Contents, content_in}
 use Rattle.hr_replay.specs.Plan.{plan_of}

@@ -1,7 +1,7 @@
 -- What a text stands for, put together from its lines, its opening and its run.
 use Rattle.std.proofs.Common.{◌≡◌, ℕ, List, None, Ok}
 use Rattle.hr_event.specs.declared.event.Event.{Event}
-use Rattle.hr_adapter.specs.Content.{Honest}
+use Rattle.hr_old_adapter.specs.Content.{Honest}
 use Rattle.hr_script.specs.Reading.{IsReading}
 use Rattle.hr_script.specs.declared.reading.Lines.{Lines}
 use Rattle.hr_replay.specs.Opening.{Contents, after_lines, content_in, events_in, no_contents}

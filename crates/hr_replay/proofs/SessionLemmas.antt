@@ -1,8 +1,8 @@
 -- The numbers of the registries.
 use Rattle.std.proofs.Common.{◌≡◌, ◌<◌, ◌+◌, ℕ, zero, suc, List, [], ◌∷◌, ◌++◌, get_or, length, map, take, refl, sym, ap, subst, ◌∙◌, append_assoc, length-append, arith}
 use Rattle.std.proofs.lemmas.List.{append-nil, map-append, take_more}
-use Rattle.hr_adapter.specs.Content.{Content}
-use Rattle.hr_memreg.specs.Mem.{Mem}
+use Rattle.hr_old_adapter.specs.Content.{Content}
+use Rattle.hr_old_memreg.specs.Mem.{Mem}
 use Rattle.hr_replay.specs.Opening.{contents_of}
 use Rattle.hr_replay.specs.declared.session.RegHeld.{RegHeld}
 

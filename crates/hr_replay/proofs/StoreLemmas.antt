@@ -10,8 +10,8 @@ use Rattle.hr_manifest.specs.Canonical.{index_media, index_text}
 use Rattle.hr_text.specs.Escaping.{IsUnescaped}
 use Rattle.hr_manifest.specs.declared.child.Child.{Child}
 use Rattle.hr_manifest.specs.declared.child.ChildKind.TheVariants as kind
-use Rattle.hr_adapter.specs.Content.{Content, manifest_at, tag_at}
-use Rattle.hr_memreg.specs.Mem.{Mem}
+use Rattle.hr_old_adapter.specs.Content.{Content, manifest_at, tag_at}
+use Rattle.hr_old_memreg.specs.Mem.{Mem}
 use Rattle.hr_replay.specs.Fit.{ArePlain}
 use Rattle.hr_replay.specs.Opening.{child_of, children_of, content_in, contents_of, with_index, with_registry, with_tagged}
 

@@ -5,7 +5,7 @@ use Rattle.hr_digest.specs.declared.digest.Digest.{Digest}
 use Rattle.hr_event.specs.declared.event.Event.{Event}
 use Rattle.hr_event.specs.declared.event.Event.TheVariants as event
 use Rattle.hr_text.specs.Escaping.{IsUnescaped}
-use Rattle.hr_adapter.specs.Content.{Content, Honest, manifest_at}
+use Rattle.hr_old_adapter.specs.Content.{Content, Honest, manifest_at}
 use Rattle.hr_script.specs.declared.line.Line.{Line}
 use Rattle.hr_script.specs.declared.line.Line.TheVariants as line
 

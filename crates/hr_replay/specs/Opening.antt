@@ -6,8 +6,8 @@ use Rattle.hr_event.specs.declared.event.Event.{Event}
 use Rattle.hr_manifest.specs.Canonical.{image_media, image_text, index_media, index_text}
 use Rattle.hr_manifest.specs.declared.child.Child.{Child}
 use Rattle.hr_manifest.specs.declared.child.ChildKind.TheVariants as kind
-use Rattle.hr_adapter.specs.Content.{Content, manifest_at, tag_at, with_blob, with_manifest, with_tag}
-use Rattle.hr_memreg.specs.Mem.{Mem}
+use Rattle.hr_old_adapter.specs.Content.{Content, manifest_at, tag_at, with_blob, with_manifest, with_tag}
+use Rattle.hr_old_memreg.specs.Mem.{Mem}
 use Rattle.hr_script.specs.declared.line.Line.{Line}
 use Rattle.hr_script.specs.declared.line.Line.TheVariants as line
 use Rattle.hr_script.specs.declared.reading.Numbered.{Numbered}

@@ -2,10 +2,10 @@
 use Rattle.std.specs.Prelude.{◌&&◌, ℕ, Bool, true, nat_le, if◌then◌else◌, List, [], ◌∷◌, length, map, flat_map, Option, Some, None}
 use Rattle.std.specs.List.{list_all}
 use Rattle.hr_event.specs.declared.task.TaskSpec.{TaskSpec}
-use Rattle.hr_adapter.specs.Content.{Content}
-use Rattle.hr_adapter.specs.Listing.{repos_of, tags_of}
-use Rattle.hr_adapter.specs.declared.listed.Tagged.{Tagged}
-use Rattle.hr_adapter.specs.declared.registry.TheConstants.{LIST_LIMIT}
+use Rattle.hr_old_adapter.specs.Content.{Content}
+use Rattle.hr_old_adapter.specs.Listing.{repos_of, tags_of}
+use Rattle.hr_old_adapter.specs.declared.listed.Tagged.{Tagged}
+use Rattle.hr_old_adapter.specs.declared.registry.TheConstants.{LIST_LIMIT}
 
 -- the task of a repository: all its tags, from registry 1 to registry 2, in one attempt
 abbrev pub spec_of : List ℕ → List Tagged → TaskSpec

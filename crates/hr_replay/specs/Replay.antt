@@ -1,9 +1,9 @@
 -- What running a script gives. (Our own.)
 use Rattle.std.specs.Prelude.{◌≡◌, ◌⊎◌, ℕ, List, [], ◌∷◌, ◌++◌, map, reverse}
 use Rattle.hr_event.specs.declared.event.Event.{Event}
-use Rattle.hr_adapter.specs.Content.{Honest}
+use Rattle.hr_old_adapter.specs.Content.{Honest}
 use Rattle.hr_copy.specs.Going.{AreFound}
-use Rattle.hr_journal.specs.Promise.{Promise}
+use Rattle.hr_old_journal.specs.Promise.{Promise}
 use Rattle.hr_replay.specs.Opening.{Contents, content_in}
 use Rattle.hr_replay.specs.Run.{AreCaused, AreFinal, IsDone, RanJobs, Runs, State, from_of, opening, to_of}
 use Rattle.hr_replay.specs.Script.{IsScript}

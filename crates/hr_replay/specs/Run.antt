@@ -13,11 +13,11 @@ use Rattle.hr_event.specs.declared.event.Event.{Event}
 use Rattle.hr_event.specs.declared.event.Event.TheVariants as event
 use Rattle.hr_event.specs.declared.task.TaskSpec.{TaskSpec}
 use Rattle.hr_event.specs.declared.task.Turn.{Turn}
-use Rattle.hr_adapter.specs.Content.{Content}
+use Rattle.hr_old_adapter.specs.Content.{Content}
 use Rattle.hr_copy.specs.Evidence.{HasOther, IsGone}
 use Rattle.hr_copy.specs.Going.{AreFound}
 use Rattle.hr_copy.specs.Outcome.{IsFinished, Ran}
-use Rattle.hr_journal.specs.Promise.{Promise}
+use Rattle.hr_old_journal.specs.Promise.{Promise}
 use Rattle.hr_replay.specs.Opening.{Contents, content_in}
 use Rattle.hr_replay.specs.Plan.{plan_of}
 use Rattle.hr_replay.specs.declared.events.TheConstants.{JOB_LIMIT}

@@ -3,9 +3,9 @@ use Rattle.std.specs.Prelude.{ℕ, List, [], ◌∷◌, ◌++◌, codes}
 use Rattle.std.specs.List.{flat_map}
 use Rattle.std.specs.Fmt.{decimal}
 use Rattle.hr_digest.specs.Digest.{text_of_digest}
-use Rattle.hr_adapter.specs.Content.{Content}
-use Rattle.hr_adapter.specs.Listing.{tags_shown}
-use Rattle.hr_adapter.specs.declared.listed.TagNow.{TagNow}
+use Rattle.hr_old_adapter.specs.Content.{Content}
+use Rattle.hr_old_adapter.specs.Listing.{tags_shown}
+use Rattle.hr_old_adapter.specs.declared.listed.TagNow.{TagNow}
 use Rattle.hr_script.specs.declared.refusal.Why.{Why}
 use Rattle.hr_script.specs.declared.refusal.Why.TheVariants as why
 

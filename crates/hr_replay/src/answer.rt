@@ -2,8 +2,8 @@
 ghost use Rattle.std.specs.Prelude.{◌≡◌, ◌++◌, codes, IfOk, OnOk};
 ghost use Rattle.hr_replay.specs.Text.{bad_text, created_text, failed_text, full_text, no_policy_text, tag_text, why_text};
 
-use hr_adapter::TagNow;
 use hr_base::{Bytes, Memory};
+use hr_old_adapter::TagNow;
 use hr_script::Why;
 use std::alloc::Global;
 

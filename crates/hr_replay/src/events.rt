@@ -1,7 +1,7 @@
 //! The events of a script, with their answers. (Our own.)
 ghost use Rattle.std.specs.Prelude.{◌≡◌, ◌++◌, List, ℕ, OnOk};
 ghost use Rattle.hr_event.specs.declared.event.Event.TheVariants as event;
-ghost use Rattle.hr_adapter.specs.Content.{Content};
+ghost use Rattle.hr_old_adapter.specs.Content.{Content};
 ghost use Rattle.hr_replay.specs.Fit.{IsNumbered, IsScripted};
 ghost use Rattle.hr_replay.specs.Opening.{content_in};
 ghost use Rattle.hr_replay.specs.Plan.{plan_of};

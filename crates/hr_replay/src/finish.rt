@@ -2,10 +2,10 @@
 ghost use Rattle.std.specs.Prelude.{◌≡◌, ◌+◌, ◌<◌, ◌≤◌, ℕ, List, OnOk, IfOk, IsTrue, IsFalse, length, slice_set};
 ghost use Rattle.std.specs.List.{AllByRecursion};
 ghost use Rattle.hr_base.specs.declared.status.Status.TheVariants.{Success};
-ghost use Rattle.hr_adapter.specs.Content.{Content};
+ghost use Rattle.hr_old_adapter.specs.Content.{Content};
 ghost use Rattle.hr_copy.specs.Going.{AreFound};
 ghost use Rattle.hr_copy.specs.Outcome.{IsFinished, Ran};
-ghost use Rattle.hr_journal.specs.Promise.{Promise};
+ghost use Rattle.hr_old_journal.specs.Promise.{Promise};
 ghost use Rattle.hr_replay.specs.Opening.{content_in, contents_of};
 ghost use Rattle.hr_replay.specs.Run.{Finishes, Goes, IsOrdered, NewestShown};
 
@@ -13,7 +13,7 @@ use crate::session::Session;
 use hr_base::{JobNo, Memory, Status};
 use hr_copy::{Log, copy_task};
 use hr_event::{TaskSpec, Turn};
-use hr_memreg::MemRegistry;
+use hr_old_memreg::MemRegistry;
 use std::alloc::Global;
 use std::mem;
 

@@ -10,8 +10,8 @@ use hr_base::{Bytes, List, Memory};
 use hr_digest::Digest;
 use hr_event::Fetched;
 use hr_manifest::{Child, ChildKind, OCI_IMAGE, OCI_INDEX, write_image, write_index};
-use hr_memreg::MemRegistry;
 use hr_name::{Name, Tag};
+use hr_old_memreg::MemRegistry;
 use hr_script::Line;
 use std::alloc::Global;
 

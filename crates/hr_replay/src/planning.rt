@@ -2,11 +2,11 @@
 ghost use Rattle.std.specs.Prelude.{◌≡◌, ◌++◌, IfOk, OnOk, map};
 ghost use Rattle.hr_replay.specs.Plan.{plan_of, spec_of, specs_for};
 
-use hr_adapter::{RegFault, Tagged};
 use hr_base::{List, Memory, PolicyNo, RegNo};
 use hr_event::TaskSpec;
-use hr_memreg::MemRegistry;
 use hr_name::{Name, Tag};
+use hr_old_adapter::{RegFault, Tagged};
+use hr_old_memreg::MemRegistry;
 use std::alloc::Global;
 
 /// The tasks for the tags of a registry, or `None` where it has more repositories, or more tags in

@@ -14,7 +14,7 @@ use crate::line::{LineRefused, store_line};
 use crate::session::{Ending, REGISTRIES, Session};
 use hr_base::{Bytes, List, Memory};
 use hr_event::Event;
-use hr_memreg::MemRegistry;
+use hr_old_memreg::MemRegistry;
 use hr_script::{Fault, Line, Lines, Numbered, SCRIPT_LIMIT, read_lines};
 use std::alloc::Global;
 

@@ -8,7 +8,7 @@ ghost use Rattle.hr_replay.specs.Replay.{HasStatus, IsKept};
 use hr_base::{List, Memory, RegNo, Status};
 use hr_copy::Log;
 use hr_event::{Entry, TaskSpec};
-use hr_memreg::MemRegistry;
+use hr_old_memreg::MemRegistry;
 use std::alloc::Global;
 use std::marker::Model;
 

@@ -1,5 +1,5 @@
 use Rattle.std.proofs.Common.{subst, sym, List, ℕ}
-use Rattle.hr_adapter.specs.Media.{FitsHeader}
+use Rattle.hr_old_adapter.specs.Media.{FitsHeader}
 use Rattle.hr_copy.proofs.PlainLemmas.{read_is_plain}
 use Rattle.hr_copy.proofs.root.put_root.Goals as goal
 

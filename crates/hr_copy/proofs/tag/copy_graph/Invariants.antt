@@ -1,7 +1,7 @@
 -- What holds whenever the walk asks for something.
 use Rattle.std.proofs.Common.{◌≡◌, ◌≤◌, ℕ, List}
 use Rattle.std.specs.Prelude.{◌≢◌}
-use Rattle.hr_adapter.specs.Content.{Content}
+use Rattle.hr_old_adapter.specs.Content.{Content}
 use Rattle.hr_graph.specs.Walk.{left_of}
 use Rattle.hr_graph.specs.declared.need.Need.TheVariants as need
 use Rattle.hr_copy.specs.Calls.{Untouched}

@@ -1,5 +1,5 @@
 use Rattle.std.proofs.Common.{◌∙◌}
-use Rattle.hr_journal.specs.Still.{ReadsNoTag}
+use Rattle.hr_old_journal.specs.Still.{ReadsNoTag}
 use Rattle.hr_copy.specs.Outcome.{IsStep}
 use Rattle.hr_copy.proofs.CallLemmas.{untouched_itself}
 use Rattle.hr_copy.proofs.GoingLemmas.{begun_going, promised_log}

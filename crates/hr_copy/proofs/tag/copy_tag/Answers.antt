@@ -1,6 +1,6 @@
 use Rattle.std.proofs.Common.{◌∙◌, ap}
-use Rattle.hr_journal.specs.Says.{last, read_under}
-use Rattle.hr_journal.specs.Still.{IsStill, ReadsNoTag}
+use Rattle.hr_old_journal.specs.Says.{last, read_under}
+use Rattle.hr_old_journal.specs.Still.{IsStill, ReadsNoTag}
 use Rattle.hr_copy.specs.Outcome.{IsStep, Obeys}
 use Rattle.hr_copy.proofs.CallLemmas.{untouched_itself, untouched_then}
 use Rattle.hr_copy.proofs.FoundLemmas.{found_on, sourced_on}

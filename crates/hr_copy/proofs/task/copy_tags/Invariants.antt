@@ -1,7 +1,7 @@
 -- What holds after some of the tags.
 use Rattle.std.proofs.Common.{◌≡◌, ◌≤◌, ℕ, List, take}
 use Rattle.std.specs.List.{AllByRecursion}
-use Rattle.hr_adapter.specs.Content.{Content}
+use Rattle.hr_old_adapter.specs.Content.{Content}
 use Rattle.hr_copy.specs.Calls.{Untouched}
 use Rattle.hr_copy.specs.Going.{Found, Promised, Sourced}
 use Rattle.hr_copy.specs.Outcome.{IsFinished, Obeys, Wrote}

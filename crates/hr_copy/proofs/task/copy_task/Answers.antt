@@ -1,7 +1,7 @@
 use Rattle.std.proofs.Common.{List, ◌∷◌, ◌++◌, map, ap, ◌∙◌}
 use Rattle.hr_event.specs.declared.entry.Entry.{Entry}
 use Rattle.hr_event.specs.declared.entry.What.TheVariants.{Began, Ended}
-use Rattle.hr_journal.specs.Still.{IsStill, ReadsNoTag}
+use Rattle.hr_old_journal.specs.Still.{IsStill, ReadsNoTag}
 use Rattle.hr_copy.specs.Outcome.{entry_of}
 use Rattle.hr_copy.proofs.CallLemmas.{untouched_itself}
 use Rattle.hr_copy.proofs.FoundLemmas.{found_on, sourced_on}

@@ -1,9 +1,9 @@
 use Rattle.std.proofs.Common.{◌≡◌, [], Option, Some, refl, sym, ap, subst, ◌∙◌}
 use Rattle.std.specs.Option.{unwrap_or}
-use Rattle.hr_adapter.specs.Content.{Content}
+use Rattle.hr_old_adapter.specs.Content.{Content}
 use Rattle.hr_copy.specs.Going.{AreFound}
-use Rattle.hr_journal.specs.Promise.{Promise}
-use Rattle.hr_memreg.specs.Mem.{Mem}
+use Rattle.hr_old_journal.specs.Promise.{Promise}
+use Rattle.hr_old_memreg.specs.Mem.{Mem}
 use Rattle.hr_replay.specs.Opening.{content_in, contents_of}
 use Rattle.hr_replay.proofs.JobLemmas.{newest_shown}
 use Rattle.hr_replay.proofs.StoreLemmas.{first_is, on_ok, on_ok_then, second_changed, second_is, second_put}

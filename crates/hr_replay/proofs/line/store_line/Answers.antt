@@ -1,6 +1,6 @@
 use Rattle.std.proofs.Common.{◌≡◌, ◌<◌, ◌-◌, Some, None, OnOk, option_map, slice_set, length, refl, sym, ap, subst, ◌∙◌, arith}
 use Rattle.hr_manifest.specs.Canonical.{image_media, image_text}
-use Rattle.hr_memreg.specs.Mem.{Mem}
+use Rattle.hr_old_memreg.specs.Mem.{Mem}
 use Rattle.hr_replay.specs.Fit.{ArePlain, IsFit, IsNumbered}
 use Rattle.hr_replay.specs.Opening.{after_line, children_of, config_text, contents_of, with_image, with_index, with_stored, with_tagged}
 use Rattle.hr_replay.proofs.StoreLemmas.{index_is, index_lacks, on_ok_then, plain_in, registry_is}

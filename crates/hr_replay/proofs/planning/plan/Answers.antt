@@ -1,5 +1,5 @@
 use Rattle.std.proofs.Common.{◌≤◌, List, ℕ, length, sym, subst, ◌∙◌}
-use Rattle.hr_adapter.specs.declared.registry.TheConstants.{LIST_LIMIT}
+use Rattle.hr_old_adapter.specs.declared.registry.TheConstants.{LIST_LIMIT}
 use Rattle.hr_replay.proofs.PlanLemmas.{listed_more, plan_found, specs_more}
 use Rattle.hr_replay.proofs.planning.plan.Goals as goal
 

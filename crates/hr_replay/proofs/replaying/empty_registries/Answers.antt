@@ -1,5 +1,5 @@
 use Rattle.std.proofs.Common.{rules, ap}
-use Rattle.hr_memreg.specs.Mem.{Mem}
+use Rattle.hr_old_memreg.specs.Mem.{Mem}
 use Rattle.hr_replay.proofs.OpeningLemmas.{one_empty}
 use Rattle.hr_replay.proofs.replaying.empty_registries.Goals as goal
 

@@ -1,5 +1,5 @@
 use Rattle.std.proofs.Common.{◌≡◌, ◌++◌, List, Ok, Err, length, take, drop, sym, rules, ap, subst, ◌∙◌, arith}
-use Rattle.hr_memreg.specs.Mem.{Mem}
+use Rattle.hr_old_memreg.specs.Mem.{Mem}
 use Rattle.hr_replay.specs.Opening.{Contents, after_lines, contents_of, no_contents}
 use Rattle.hr_replay.proofs.OpeningLemmas.{count_of, kept_part, well_at}
 use Rattle.hr_replay.proofs.replaying.open_script.Goals as goal

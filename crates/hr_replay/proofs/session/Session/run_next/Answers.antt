@@ -2,7 +2,7 @@ use Rattle.std.proofs.Common.{◌≡◌, ◌<◌, ◌+◌, ◌++◌, ◌∷◌, 
 use Rattle.std.proofs.lemmas.Option.{slice_get_read}
 use Rattle.hr_base.specs.declared.status.Status.{Status}
 use Rattle.hr_event.specs.declared.task.TaskSpec.{TaskSpec}
-use Rattle.hr_memreg.specs.Mem.{Mem}
+use Rattle.hr_old_memreg.specs.Mem.{Mem}
 use Rattle.hr_replay.specs.Opening.{contents_of}
 use Rattle.hr_replay.specs.Run.{Goes, State}
 use Rattle.hr_replay.proofs.RunLemmas.{RanOne, goes_one}
