@@ -1,5 +1,6 @@
 //! A value within a document, and what it has (RFC 8259, sections 3 to 7).
-ghost use Rattle.std.specs.Prelude.{◌≡◌, length, is_some, option_and_then, option_map, slice_get, IsTrue};
+ghost use Rattle.std.specs.Prelude.{◌≡◌, IfSome, length, is_some, option_and_then, option_map, slice_get, IsTrue};
+ghost use Rattle.std.specs.Str.{IsUtf8};
 ghost use Rattle.serde_json.specs.Find.{as_array, as_bool, as_i64, as_null, as_number, as_object, as_str, as_u64, get, get_member};
 ghost use Rattle.serde_json.specs.View.{members_view, view};
 ghost use Rattle.hr_json.specs.Node.{items_in, value_of, values_of};
@@ -46,7 +47,8 @@ impl<'a> Node<'a> {
 
     /// The text, without escapes, where this is one.
     pub fn text(&self) -> Option<&'a [u8]>
-        ensures { option_map (λ t. t.now) result ≡ as_str (value_of self.now) }
+        ensures value { option_map (λ t. t.now) result ≡ as_str (value_of self.now) }
+        ensures utf8 { IfSome result (λ t. IsUtf8 t.now) }
     {
         match self.value.as_str() {
             Some(text) => Some(text.as_bytes()),

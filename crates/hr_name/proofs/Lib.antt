@@ -1,3 +1,4 @@
+pub mod ComponentLaws
 mod FrontLemmas
 mod NameLemmas
 mod ReachLemmas

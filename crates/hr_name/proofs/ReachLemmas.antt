@@ -1,6 +1,6 @@
 -- The places that a text leads to, and that they tell what makes it a name.
 use Rattle.std.proofs.Common.{◌≡◌, ◌≢◌, ℕ, ◌+◌, ◌<◌, true, false, cond, eqb, inl, inr, List, [], ◌∷◌, ◌++◌, Option, Some, None, refl, sym, ap, ◌∙◌, subst, append_assoc, take, get_or, length}
-use Rattle.std.specs.Prelude.{IsTrue, codes}
+use Rattle.std.specs.Prelude.{IsTrue, MatchOption, codes, is_none}
 use Rattle.std.specs.List.{AllByRecursion}
 use Rattle.std.specs.Option.{option_and_then}
 use Rattle.std.proofs.lemmas.Option.{option_and_then_some}
@@ -16,31 +16,9 @@ use Rattle.hr_name.specs.Name.{IsRun, IsDashes, IsSeparator, IsComponent, IsName
 use Rattle.hr_name.specs.Name.IsSeparator.{dot, underscore, underscores, dashes}
 use Rattle.hr_name.specs.Name.IsComponent.{run, joined}
 use Rattle.hr_name.specs.Name.IsName.{component, path}
-use Rattle.hr_name.specs.Place.{Alike, front_of, Moves}
+use Rattle.hr_name.specs.Place.{Alike, behind, front_of, is_end, is_name, Moves, reach, step}
 use Rattle.hr_name.proofs.FrontLemmas.{fault_here, fault_at_end}
 use Rattle.hr_name.proofs.NameLemmas.{IsRun-one, IsName-more, IsName-joined, IsName-path}
-
--- the place behind a byte that doesn't stand in runs
-abbrev pub behind : Place → ℕ → Option Place
-behind Start byte = None
-behind Run byte =
-    cond (eqb byte 46) (Some Dot)
-    (cond (eqb byte 95) (Some Underscore)
-    (cond (eqb byte 45) (Some Dashes)
-    (cond (eqb byte 47) (Some Start) None)))
-behind Dot byte = None
-behind Underscore byte = cond (eqb byte 95) (Some Underscores) None
-behind Underscores byte = None
-behind Dashes byte = cond (eqb byte 45) (Some Dashes) None
-
--- the place behind a byte
-unfoldable pub step : Place → ℕ → Option Place
-step place byte = cond (stands_in_run byte) (Some Run) (behind place byte)
-
--- the place behind a text
-unfoldable pub reach : Place → List ℕ → Option Place
-reach place [] = Some place
-reach place (byte ∷ text) = option_and_then (λ next. reach next text) (step place byte)
 
 pub step-run : (place : Place) (byte : ℕ) → stands_in_run byte ≡ true → step place byte ≡ Some Run
 unfolding step
@@ -385,3 +363,29 @@ name_fault_at_end text place other alike =
     (sym (front-reached place)
     ∙ ap (reach Start) (sym (append-nil (front_of place)))
     ∙ IsName-reached ((whole []).0 (subst IsName (sym (append-nil text)) n)))))
+
+-- the test that computes
+
+is_end-run : (reached : Option Place) → is_end reached ≡ true → reached ≡ Some Run
+is_end-run None e = absurd cc
+is_end-run (Some Start) e = absurd cc
+is_end-run (Some Run) e = refl
+is_end-run (Some Dot) e = absurd cc
+is_end-run (Some Underscore) e = absurd cc
+is_end-run (Some Underscores) e = absurd cc
+is_end-run (Some Dashes) e = absurd cc
+
+pub is_name-from_IsName : (text : List ℕ) → IsName text → is_name text ≡ true
+is_name-from_IsName text n = ap is_end (IsName-reached n)
+
+pub is_name-from_refusal : (text : List ℕ) → (IsName text → ⊥) → is_name text ≡ false
+is_name-from_refusal text refused = elim (cases_Bool (is_name text)) [
+  | inl e ↦ absurd (refused (IsName-from_reach text (is_end-run _ e)))
+  | inr e ↦ e
+]
+
+-- there is no fault exactly where the test holds
+pub fault_tells : (text : List ℕ) (fault : Option ℕ) → MatchOption fault (IsName text) (λ at. IsFaultAt IsName text at)
+    → is_none fault ≡ is_name text
+fault_tells text None n = sym (is_name-from_IsName text n)
+fault_tells text (Some at) f = sym (is_name-from_refusal text f.refused)

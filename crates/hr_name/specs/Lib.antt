@@ -1,4 +1,5 @@
 pub mod Alphabet
+pub mod Answer
 pub mod Front
 pub mod Name
 pub mod Place

@@ -1,7 +1,9 @@
 //! Names of repositories (OCI Distribution 1.1, "Pulling manifests").
-ghost use Rattle.std.specs.Prelude.{◌≡◌, ◌<◌, ◌≤◌, ◌↔◌, ℕ, IfOk, IsOk, length};
+ghost use Rattle.std.specs.Prelude.{◌≡◌, ◌<◌, ◌≤◌, ◌↔◌, ◌&&◌, ℕ, IfOk, IsOk, length, nat_le};
+ghost use Rattle.hr_name.specs.Answer.{AnswersTest};
 ghost use Rattle.hr_name.specs.Front.{IsFaultAt};
 ghost use Rattle.hr_name.specs.Name.{IsName};
+ghost use Rattle.hr_name.specs.Place.{is_name};
 
 use crate::NameRefused;
 use crate::place::name_fault;
@@ -44,6 +46,9 @@ impl Name {
             ↔ ((length text.now ≤ NAME_LIMIT) × IsFaultAt IsName text.now at) }
         ensures memory { (result ≡ Err NameRefused.Memory)
             → IsName text.now × (length text.now ≤ NAME_LIMIT) }
+
+        // The same as a test that computes.
+        ensures test { AnswersTest (is_name text.now && nat_le (length text.now) NAME_LIMIT) result }
     {
         if text.len() > NAME_LIMIT {
             return Err(NameRefused::TooLong {

@@ -1,9 +1,9 @@
 //! The reading of a name byte by byte: what is read so far, by what may follow it.
-ghost use Rattle.std.specs.Prelude.{◌≡◌, ◌==◌, if◌then◌else◌, false, MatchOption};
+ghost use Rattle.std.specs.Prelude.{◌≡◌, ◌==◌, if◌then◌else◌, false, is_none, MatchOption};
 ghost use Rattle.hr_name.specs.Alphabet.{stands_in_run};
 ghost use Rattle.hr_name.specs.Front.{IsFaultAt};
 ghost use Rattle.hr_name.specs.Name.{IsName};
-ghost use Rattle.hr_name.specs.Place.{Moves};
+ghost use Rattle.hr_name.specs.Place.{is_name, Moves};
 
 use crate::alphabet::stands_in_run;
 
@@ -64,7 +64,8 @@ fn after_run(byte: u8) -> Option<Place>
 
 /// Where the text leaves the grammar of names, or `None` for a name.
 pub(crate) fn name_fault(text: &[u8]) -> Option<usize>
-    ensures { MatchOption result (IsName text.now) (λ at. IsFaultAt IsName text.now at) }
+    ensures place { MatchOption result (IsName text.now) (λ at. IsFaultAt IsName text.now at) }
+    ensures test { is_none result ≡ is_name text.now }
 {
     let mut place = Place::Start;
     for (at, byte) in text.iter().enumerate() {

@@ -1,7 +1,8 @@
 use Rattle.std.proofs.Common.{ap, arith}
 use Rattle.std.specs.Prelude.{Some}
 use Rattle.hr_name.specs.declared.place.Place.TheVariants.{Start, Run}
-use Rattle.hr_name.proofs.ReachLemmas.{behind, moves_behind, moves_none}
+use Rattle.hr_name.specs.Place.{behind}
+use Rattle.hr_name.proofs.ReachLemmas.{moves_behind, moves_none}
 use Rattle.hr_name.proofs.place.after_run.Goals as goal
 
 pub returns-in-47 : goal.returns-in-47

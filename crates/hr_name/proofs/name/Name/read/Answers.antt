@@ -7,6 +7,6 @@ use Rattle.hr_name.proofs.name.Name.read.Goals as goal
 pub returns-in-Some-clause-shape : goal.returns-in-Some-clause-shape
 returns-in-Some-clause-shape c = λ n. (
   λ e. let same : c.in-Some.at ≡ n = cc in
-      (omega arith, subst (IsFaultAt IsName c.args.text.now) same c.in-Some.ensures),
-  λ h. let same : c.in-Some.at ≡ n = fault-unique IsName c.args.text.now c.in-Some.at n c.in-Some.ensures h.1 in cc,
+      (omega arith, subst (IsFaultAt IsName c.args.text.now) same c.in-Some.ensures.place),
+  λ h. let same : c.in-Some.at ≡ n = fault-unique IsName c.args.text.now c.in-Some.at n c.in-Some.ensures.place h.1 in cc,
 )

@@ -2,8 +2,8 @@ use Rattle.std.proofs.Common.{◌≡◌, ap, subst, sym, ◌∙◌, inl, inr, fa
 use Rattle.hr_name.specs.declared.place.Place.TheVariants.{Underscore, Dashes}
 use Rattle.hr_name.specs.declared.place.Place.{Place}
 use Rattle.hr_name.specs.Alphabet.{stands_in_run}
-use Rattle.hr_name.specs.Place.{Moves}
-use Rattle.hr_name.proofs.ReachLemmas.{behind, moves_run, moves_behind}
+use Rattle.hr_name.specs.Place.{behind, Moves}
+use Rattle.hr_name.proofs.ReachLemmas.{moves_run, moves_behind}
 use Rattle.hr_name.proofs.place.Place.after.Goals as goal
 
 pub returns-then-stands_in_run : goal.returns-then-stands_in_run
