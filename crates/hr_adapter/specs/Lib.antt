@@ -1,0 +1,9 @@
+pub mod Calls
+pub mod Content
+pub mod Listing
+pub mod Media
+pub mod Pieces
+pub mod Plan
+pub mod Put
+pub mod Reg
+pub mod Silent
