@@ -1,0 +1,16 @@
+use Rattle.std.proofs.lemmas.Result.{err_from_is_err_and}
+use Rattle.std.proofs.Common.{◌∙◌, ap}
+use Rattle.hr_adapter.specs.Content.{head_at}
+use Rattle.hr_memreg.proofs.CallLemmas.{heads_by, heads_err}
+use Rattle.hr_memreg.proofs.calls.MemRegistryRegistry.head.Goals as goal
+
+pub returns-in_err-ask : goal.returns-in_err-ask
+returns-in_err-ask c =
+    let p = err_from_is_err_and c.from_residual.result c.from_residual.ensures.1 in
+    rw (p.1, p.2)
+    (heads_err c.args.repo.now c.args.reference.now c.args.self.now c.ask.new.self _ c.in_err-ask.ensures)
+
+pub returns : goal.returns
+returns c =
+    heads_by c.args.repo.now c.args.reference.now c.args.self.now c.ask.new.self _ c.head.result c.in_ok-ask.ensures
+    (c.head.ensures ∙ ap (λ held. head_at held c.args.repo.now c.args.reference.now) c.held.ensures)
