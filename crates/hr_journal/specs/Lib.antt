@@ -1,0 +1,9 @@
+pub mod Graph
+pub mod Grows
+pub mod OneEach
+pub mod Origin
+pub mod Promise
+pub mod Puts
+pub mod Says
+pub mod Shown
+pub mod Still
