@@ -1,0 +1,4 @@
+mod FilterLemmas
+mod GroupLemmas
+mod NamingLemmas
+mod SelectionLemmas

@@ -1,0 +1,4 @@
+pub mod Filter
+pub mod Grouping
+pub mod Naming
+pub mod Selection
