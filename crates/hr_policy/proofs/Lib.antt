@@ -1,0 +1,11 @@
+mod ConfigBackLemmas
+mod FaultLemmas
+mod FilterBackLemmas
+mod GivenLemmas
+mod MemberBackLemmas
+mod PolicyBackLemmas
+mod RoundTripLemmas
+mod ShapeLemmas
+mod SoundLemmas
+mod StepLemmas
+mod TextLemmas

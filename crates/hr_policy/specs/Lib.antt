@@ -1,0 +1,10 @@
+pub mod Choice
+pub mod Fault
+pub mod Filter
+pub mod Reading
+pub mod Sound
+pub mod Step
+pub mod Text
+pub mod Written
+pub use Rattle.hr_json.specs.Doc
+pub use Rattle.hr_setting.specs.Member
