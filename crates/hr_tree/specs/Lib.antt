@@ -1,0 +1,3 @@
+pub mod MemTree
+pub mod Path
+pub mod Tree
