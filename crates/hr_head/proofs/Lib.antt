@@ -1,0 +1,4 @@
+mod EndingLemmas
+mod HeadLemmas
+mod ReplyLemmas
+mod RequestLemmas
