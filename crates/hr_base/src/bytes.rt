@@ -60,6 +60,14 @@ impl From<Vec<u8>> for Bytes {
     }
 }
 
+impl From<Bytes> for Vec<u8> {
+    ghost from_gives = { λ bytes made. made.items ≡ bytes };
+
+    fn from(bytes: Bytes) -> Vec<u8> {
+        bytes.items
+    }
+}
+
 impl PartialEq for Bytes {
     ghost eq = { pointwise nat_eq };
 
