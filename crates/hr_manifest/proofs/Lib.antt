@@ -1,6 +1,7 @@
 mod BackLemmas
 mod DescriptorLemmas
 mod EachLemmas
+mod LongLemmas
 mod PieceLemmas
 mod PlainLemmas
 pub mod ReadingLaws

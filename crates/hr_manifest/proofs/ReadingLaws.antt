@@ -1,6 +1,6 @@
 -- Laws of what is read as a manifest, for lemmas of the crates above; they are contracts in
 -- src/law.rt too.
-use Rattle.std.proofs.Common.{◌≡◌, ◌≤◌, ◌⊎◌, inl, inr, ◌||◌, Bool, true, false, List, [], ◌∷◌, length, arith, refl, sym}
+use Rattle.std.proofs.Common.{◌≡◌, ◌<◌, ◌≤◌, ◌⊎◌, inl, inr, ◌||◌, Bool, true, false, ℕ, List, [], ◌∷◌, length, arith, refl, sym}
 use Rattle.std.specs.Cmp.Lexicographic.{bytes_decides}
 use Rattle.std.specs.Prelude.{Contains, Some, None, if◌then◌else◌}
 use Rattle.hr_base.specs.Bytes.{ByteList, Media}
@@ -8,7 +8,9 @@ use Rattle.hr_base.specs.declared.limit.TheConstants.{MANIFEST_LIMIT}
 use Rattle.hr_manifest.specs.declared.child.Child.{Child}
 use Rattle.hr_manifest.specs.declared.manifest.TheConstants.{CHILD_LIMIT}
 use Rattle.hr_manifest.specs.declared.media.TheConstants.{DOCKER_IMAGE, DOCKER_INDEX, OCI_IMAGE, OCI_INDEX}
-use Rattle.hr_manifest.specs.Reading.{IsManifestMedia, Reads, is_image, is_index}
+use Rattle.hr_manifest.specs.Reading.{IsManifestMedia, Reads, Refuses, is_image, is_index}
+use Rattle.hr_manifest.specs.declared.refusal.Unreadable.TheVariants.{TooLong}
+use Rattle.hr_manifest.proofs.LongLemmas as long
 use Rattle.hr_manifest.proofs.ReadingLemmas as lemma
 
 -- What bytes list depends on them alone, whatever the media type under which they are read.
@@ -25,6 +27,11 @@ reads_short = lemma.reads-short
 pub reads_few : (media : Media) (bytes : ByteList) (children : List Child) → Reads media bytes children
     → length children ≤ CHILD_LIMIT
 reads_few = lemma.reads-few
+
+-- A manifest is refused as too long only by the number of its bytes, which are more than it may have.
+pub refuses_long : (media : Media) (bytes : ByteList) (len : ℕ) → Refuses media bytes (TooLong len)
+    → (len ≡ length bytes) × (MANIFEST_LIMIT < len)
+refuses_long = long.refuses-long
 
 -- ---- the media type
 

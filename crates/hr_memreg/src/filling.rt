@@ -48,17 +48,16 @@ fn blobs_of(alloc: Global, blobs: List<BlobAt>) -> Result<BTreeMap<Digest, Blob>
     let mut kept = BTreeMap::new(alloc);
     for blob in Vec::from(blobs) {
         let BlobAt { digest, bytes } = blob;
-        kept.insert(digest, held_blob(alloc, &bytes)?)?;
+        kept.insert(digest, held_blob(alloc, bytes)?)?;
     }
     Ok(kept)
 }
 
-// A blob of these bytes. They are copied into a `Vec`, whose length is known to fit its type.
-fn held_blob(alloc: Global, bytes: &Bytes) -> Result<Blob, Memory>
-    ensures { IfOk result (λ blob. blob ≡ bytes.now) }
+// A blob of these bytes.
+fn held_blob(alloc: Global, bytes: Bytes) -> Result<Blob, Memory>
+    ensures { IfOk result (λ blob. blob ≡ bytes) }
 {
-    let bytes = bytes.view().to_vec(alloc)?;
-    Blob::of(alloc, bytes)
+    Blob::of(alloc, Vec::from(bytes))
 }
 
 // The manifests in the order of their digests.

@@ -1,0 +1,5 @@
+pub mod ChildLemmas
+pub mod EvidenceLemmas
+pub mod LineLemmas
+mod ListLemmas
+pub mod StepLemmas

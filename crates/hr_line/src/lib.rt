@@ -1,0 +1,11 @@
+//! What one step of a lane does, as a relation between the states before and after it. It is all
+//! definitions and laws; start with `specs/Step.antt`.
+#![tactic(auto)]
+
+mod answer;
+mod held;
+mod laws;
+
+pub use answer::{Admit, Stepped};
+pub use held::{Admitted, Held, Work};
+pub use laws::lines_have_evidence;
