@@ -1,3 +1,4 @@
+pub mod Admission
 pub mod Cause
 pub mod Evidence
 pub mod Kept
