@@ -1,7 +1,9 @@
 pub mod Admission
 pub mod Cause
+pub mod Destination
 pub mod Evidence
 pub mod Kept
 pub mod Line
+pub mod Orderly
 pub mod State
 pub mod Step
