@@ -13,7 +13,7 @@ use Rattle.hr_body.specs.declared.fault.WireFault.{WireFault}
 use Rattle.hr_body.specs.declared.fault.WireFault.TheVariants.{Failed, Malformed, Ended, TooLong, Memory}
 use Rattle.hr_body.specs.Leading.{Leads, IsUnended, MayEnd, HoldsBody}
 use Rattle.hr_body.specs.Stage.{step_of, WantsData, WantsAtLeast, stage_past}
-use Rattle.hr_body.specs.Reading.{in_word, Passed, GavePiece, GaveOf, LostOf, IsFirstOrKept, WhereTold, HeldNone, Closes, BrokeOff, Explains}
+use Rattle.hr_body.specs.Reading.{in_word, Passed, GavePiece, GaveOf, LostOf, IsFirstOrKept, HeldNone, Closes, BrokeOff, Explains}
 use Rattle.hr_body.proofs.LeadingLemmas.{leads_more, leads_none, data_leads, done_stops, body_goes_on, strays_never, ended_none}
 
 -- one byte of the coding

@@ -1,8 +1,8 @@
 -- Laws of what is read as a manifest, for lemmas of the crates above; they are contracts in
 -- src/law.rt too.
-use Rattle.std.proofs.Common.{◌≡◌, ◌<◌, ◌≤◌, ◌⊎◌, inl, inr, ◌||◌, Bool, true, false, ℕ, List, [], ◌∷◌, length, arith, refl, sym}
+use Rattle.std.proofs.Common.{◌≡◌, ◌<◌, ◌≤◌, ◌⊎◌, inl, inr, ◌||◌, Bool, true, false, ℕ, List, length, arith, refl, sym}
 use Rattle.std.specs.Cmp.Lexicographic.{bytes_decides}
-use Rattle.std.specs.Prelude.{Contains, Some, None, if◌then◌else◌}
+use Rattle.std.specs.Prelude.{Some, None, if◌then◌else◌}
 use Rattle.hr_base.specs.Bytes.{ByteList, Media}
 use Rattle.hr_base.specs.declared.limit.TheConstants.{MANIFEST_LIMIT}
 use Rattle.hr_manifest.specs.declared.child.Child.{Child}

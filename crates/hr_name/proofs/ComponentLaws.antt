@@ -1,10 +1,10 @@
 -- Laws of names by the `/` between their components.
-use Rattle.std.proofs.Common.{◌≡◌, ◌≢◌, ◌⊎◌, ℕ, [], ◌∷◌, ◌++◌, inl, inr, refl, sym, ap, ◌∙◌, subst, append_assoc, arith}
+use Rattle.std.proofs.Common.{◌≡◌, ◌≢◌, ◌⊎◌, [], ◌∷◌, ◌++◌, inl, inr, refl, sym, ap, ◌∙◌, subst, append_assoc, arith}
 use Rattle.std.specs.Prelude.{IsTrue}
 use Rattle.std.specs.List.{AllByRecursion}
 use Rattle.hr_base.specs.Bytes.{Text}
 use Rattle.hr_name.specs.Alphabet.{stands_in_run}
-use Rattle.hr_name.specs.Name.{RepoName, IsRun, IsDashes, IsSeparator, IsComponent, IsName}
+use Rattle.hr_name.specs.Name.{RepoName, IsSeparator, IsComponent, IsName}
 use Rattle.hr_name.specs.Name.IsSeparator.{dot, underscore, underscores, dashes}
 use Rattle.hr_name.specs.Name.IsComponent.{run, joined}
 use Rattle.hr_name.specs.Name.IsName.{component, path}

@@ -1,4 +1,4 @@
-use Rattle.std.proofs.Common.{◌≡◌, ℕ, length}
+use Rattle.std.proofs.Common.{◌≡◌, length}
 use Rattle.hr_setting.specs.Path.{is_path}
 use Rattle.hr_setting.proofs.path.is_path.Given as goal
 
