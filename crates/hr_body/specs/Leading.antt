@@ -1,6 +1,6 @@
 -- Where bytes lead from a stage, what they give of the body, and the body that they hold. (Our
 -- own, over the chunked coding of RFC 9112, section 7.1.)
-use Rattle.std.specs.Prelude.{◌≡◌, ℕ, ◌+◌, ◌≤◌, [], ◌∷◌, ◌++◌, length, Option, Some, None}
+use Rattle.std.specs.Prelude.{⊤, ◌≡◌, ℕ, ◌+◌, ◌≤◌, [], ◌∷◌, ◌++◌, length, Option, Some, None}
 use Rattle.hr_base.specs.Bytes.{ByteList}
 use Rattle.hr_body.specs.declared.stage.Coding.TheVariants.{Line, DataEnd, DataFeed}
 use Rattle.hr_body.specs.declared.stage.Stage.{Stage}
@@ -34,9 +34,9 @@ pub record Leads (p : Stage) (front piece : ByteList) (q : Stage) : Type 0 where
 
 -- more bytes have to come
 abbrev pub IsUnended : Stage → Type 0
-IsUnended (Between coding) = Unit {0}
-IsUnended (Chunk more) = Unit {0}
-IsUnended (Sized more) = Unit {0}
+IsUnended (Between coding) = ⊤
+IsUnended (Chunk more) = ⊤
+IsUnended (Sized more) = ⊤
 IsUnended ToEnd = ⊥
 IsUnended Done = ⊥
 
@@ -46,7 +46,7 @@ MayEnd (Between coding) rest = ⊥
 MayEnd (Chunk more) rest = ⊥
 MayEnd (Sized more) rest = ⊥
 MayEnd ToEnd rest = rest ≡ []
-MayEnd Done rest = Unit {0}
+MayEnd Done rest = ⊤
 
 -- from p the bytes begin with this body, and the rest follows it
 pub record HoldsBody (p : Stage) (bytes body rest : ByteList) : Type 0 where
@@ -90,9 +90,9 @@ pub record IsPast (p : Stage) (room : ℕ) (front : ByteList) : Type 0 where
 -- the line, or the trailer section, has room for what it needs to end
 abbrev pub HasLineRoom : Stage → Type 0
 HasLineRoom (Between (Line room part)) = 3 ≤ room
-HasLineRoom (Between DataEnd) = Unit {0}
-HasLineRoom (Between DataFeed) = Unit {0}
-HasLineRoom (Chunk more) = Unit {0}
-HasLineRoom (Sized more) = Unit {0}
-HasLineRoom ToEnd = Unit {0}
-HasLineRoom Done = Unit {0}
+HasLineRoom (Between DataEnd) = ⊤
+HasLineRoom (Between DataFeed) = ⊤
+HasLineRoom (Chunk more) = ⊤
+HasLineRoom (Sized more) = ⊤
+HasLineRoom ToEnd = ⊤
+HasLineRoom Done = ⊤

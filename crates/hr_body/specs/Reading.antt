@@ -1,5 +1,5 @@
 -- What reads of a body do to a device, told or not. (Our own.)
-use Rattle.std.specs.Prelude.{◌≡◌, ℕ, ◌+◌, ◌-◌, ◌^◌, ◌≤◌, ◌⊎◌, min, [], length, Option, Some, None}
+use Rattle.std.specs.Prelude.{⊤, ◌≡◌, ℕ, ◌+◌, ◌-◌, ◌^◌, ◌≤◌, ◌⊎◌, min, [], length, Option, Some, None}
 use Rattle.hr_base.specs.Bytes.{ByteList}
 use Rattle.hr_cause.specs.Stream.{Gave, IsEnded}
 use Rattle.hr_body.specs.declared.stage.Stage.{Stage}
@@ -16,10 +16,10 @@ in_word n = min n (2 ^ 64 - 1)
 -- the stage wants data, or the body is at its end
 abbrev pub IsFound : Stage → Type 0
 IsFound (Between coding) = ⊥
-IsFound (Chunk more) = Unit {0}
-IsFound (Sized more) = Unit {0}
-IsFound ToEnd = Unit {0}
-IsFound Done = Unit {0}
+IsFound (Chunk more) = ⊤
+IsFound (Sized more) = ⊤
+IsFound ToEnd = ⊤
+IsFound Done = ⊤
 
 -- the bytes that came lead from p to q and are no data; at is how many of the message came by then
 pub record Passed (old : Option ByteList) (p : Stage) (at : ℕ) (q : Stage) (now : ℕ)
@@ -45,7 +45,7 @@ pub record GavePiece (old : Option ByteList) (p : Stage) (at : ℕ) (piece : Byt
 
 -- why the bytes that came, with the end of the device behind them, are no piece of a body
 abbrev pub Explains : Stage → ℕ → ℕ → ℕ → ByteList → Option ByteList → WireFault → Type 0
-Explains p at room limit front new Failed = Unit {0}
+Explains p at room limit front new Failed = ⊤
 Explains p at room limit front new (Malformed n) =
     (n ≡ in_word (at + length front)) × Strays p room front
 Explains p at room limit front new (Ended n) =
@@ -93,14 +93,14 @@ pub record IsFresh (body : Body) (stage : Stage) (at limit : ℕ) : Type 0 where
 
 -- P of what was left and what is left now, where the device tells; it tells as before
 abbrev pub WhereTold : Option ByteList → Option ByteList → (ByteList → ByteList → Type 0) → Type 0
-WhereTold None None P = Unit {0}
+WhereTold None None P = ⊤
 WhereTold None (Some new) P = ⊥
 WhereTold (Some old) None P = ⊥
 WhereTold (Some old) (Some new) P = P old new
 
 -- where the device tells, no body within this many bytes was there
 abbrev pub HeldNone : Option ByteList → Stage → ℕ → Type 0
-HeldNone None p room = Unit {0}
+HeldNone None p room = ⊤
 HeldNone (Some bytes) p room =
     (body rest : ByteList) → HoldsBody p bytes body rest → length body ≤ room → ⊥
 

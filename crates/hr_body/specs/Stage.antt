@@ -1,6 +1,6 @@
 -- The bodies of messages byte by byte: from a stage, a byte leads to the next one, or no body goes
 -- on so (RFC 9112, sections 6.3 and 7.1).
-use Rattle.std.specs.Prelude.{ℕ, ◌+◌, ◌-◌, ◌*◌, ◌≤◌, [], ◌∷◌, Option, Some, None, if◌then◌else◌, nat_lt, ◌==◌}
+use Rattle.std.specs.Prelude.{⊤, ℕ, ◌+◌, ◌-◌, ◌*◌, ◌≤◌, [], ◌∷◌, Option, Some, None, if◌then◌else◌, nat_lt, ◌==◌}
 use Rattle.std.specs.Char.{is_ascii_hexdigit, digit_value}
 use Rattle.httparse.specs.Grammar.{is_token_byte, is_value_byte, is_ows}
 use Rattle.hr_base.specs.Bytes.{ByteList}
@@ -99,9 +99,9 @@ data_of Done b = []
 -- the next byte, if one comes, is data
 abbrev pub WantsData : Stage → Type 0
 WantsData (Between coding) = ⊥
-WantsData (Chunk more) = Unit {0}
-WantsData (Sized more) = Unit {0}
-WantsData ToEnd = Unit {0}
+WantsData (Chunk more) = ⊤
+WantsData (Sized more) = ⊤
+WantsData ToEnd = ⊤
 WantsData Done = ⊥
 
 -- so many bytes, if they come, are all data
@@ -109,7 +109,7 @@ abbrev pub WantsAtLeast : Stage → ℕ → Type 0
 WantsAtLeast (Between coding) n = ⊥
 WantsAtLeast (Chunk more) n = n ≤ more + 1
 WantsAtLeast (Sized more) n = n ≤ more + 1
-WantsAtLeast ToEnd n = Unit {0}
+WantsAtLeast ToEnd n = ⊤
 WantsAtLeast Done n = ⊥
 
 -- the stage behind so many bytes of data

@@ -1,5 +1,5 @@
 -- The field lines with one name (RFC 9110, section 5.1).
-use Rattle.std.specs.Prelude.{◌≡◌, Bool, List, [], ◌∷◌, if◌then◌else◌, flat_map}
+use Rattle.std.specs.Prelude.{⊤, ◌≡◌, Bool, List, [], ◌∷◌, if◌then◌else◌, flat_map}
 use Rattle.std.specs.Str.{str_eq_ignore_ascii_case}
 use Rattle.hr_base.specs.Bytes.{Text}
 use Rattle.hr_frame.specs.declared.head.Head.{Head}
@@ -20,7 +20,7 @@ values_named name heads = flat_map (named_value name) heads
 
 -- what was found is none, the one, or several values
 abbrev pub IsNamed : List Text → Named → Type 0
-IsNamed [] Absent = Unit {0}
+IsNamed [] Absent = ⊤
 IsNamed [] (One value) = ⊥
 IsNamed [] Many = ⊥
 IsNamed (value ∷ []) Absent = ⊥
@@ -28,4 +28,4 @@ IsNamed (value ∷ []) (One found) = found.now ≡ value
 IsNamed (value ∷ []) Many = ⊥
 IsNamed (value ∷ other ∷ values) Absent = ⊥
 IsNamed (value ∷ other ∷ values) (One found) = ⊥
-IsNamed (value ∷ other ∷ values) Many = Unit {0}
+IsNamed (value ∷ other ∷ values) Many = ⊤

@@ -1,5 +1,5 @@
 -- Why a head is not read, by all the bytes that were left. (Our own.)
-use Rattle.std.specs.Prelude.{◌≡◌, ◌<◌, ◌≤◌, ◌+◌, length, take}
+use Rattle.std.specs.Prelude.{⊤, ◌≡◌, ◌<◌, ◌≤◌, ◌+◌, length, take}
 use Rattle.hr_base.specs.Bytes.{ByteList}
 use Rattle.hr_body.specs.declared.fault.WireFault.{WireFault}
 use Rattle.hr_body.specs.declared.fault.WireFault.TheVariants.{Failed, Malformed, Ended, TooLong, Memory}
@@ -9,8 +9,8 @@ use Rattle.hr_head.specs.declared.field.TheConstants.{HEAD_LIMIT}
 -- enough lines, or begin one
 abbrev pub HeadFault : (ByteList → Type 0) → (ByteList → Type 0) → (ByteList → Type 0) → ByteList
     → WireFault → Type 0
-HeadFault hold_none begin_none may_begin bytes Failed = Unit {0}
-HeadFault hold_none begin_none may_begin bytes Memory = Unit {0}
+HeadFault hold_none begin_none may_begin bytes Failed = ⊤
+HeadFault hold_none begin_none may_begin bytes Memory = ⊤
 HeadFault hold_none begin_none may_begin bytes (Malformed at) =
     (at ≤ HEAD_LIMIT) × begin_none (take at bytes)
 HeadFault hold_none begin_none may_begin bytes (Ended at) =
@@ -22,7 +22,7 @@ HeadFault hold_none begin_none may_begin bytes (TooLong len) =
 -- why the bytes so far are refused, for the same heads
 abbrev pub RefusedSoFar : (ByteList → Type 0) → ByteList → WireFault → Type 0
 RefusedSoFar begin_none bytes Failed = ⊥
-RefusedSoFar begin_none bytes Memory = Unit {0}
+RefusedSoFar begin_none bytes Memory = ⊤
 RefusedSoFar begin_none bytes (Malformed at) = (at ≡ length bytes) × begin_none bytes
 RefusedSoFar begin_none bytes (Ended at) = ⊥
 RefusedSoFar begin_none bytes (TooLong len) = ⊥

@@ -1,12 +1,12 @@
 -- What a configuration without a fault keeps. (Our own.)
-use Rattle.std.specs.Prelude.{◌≡◌, ◌≢◌, ℕ, true, List, [], ◌∷◌}
+use Rattle.std.specs.Prelude.{⊤, ◌≡◌, ◌≢◌, ℕ, true, List, [], ◌∷◌}
 use Rattle.std.specs.List.{AllByRecursion}
 use Rattle.hr_policy.specs.declared.config.Config.{Config}
 use Rattle.hr_policy.specs.Fault.{policy_ids, reg_ids, stands}
 
 -- no number stands twice
 abbrev pub AreDistinct : List ℕ → Type 0
-AreDistinct [] = Unit {0}
+AreDistinct [] = ⊤
 AreDistinct (n ∷ ns) = AllByRecursion (λ m. n ≢ m) ns × AreDistinct ns
 
 -- the numbers are distinct, each policy copies from a registry to a registry, and what one policy

@@ -48,7 +48,7 @@ each_some reader = gather (λ d. mapped option_to_list (reader d))
 
 -- the fault that was told is that of the reading, unless memory ran out
 abbrev pub Fails : {A : Type 0} → ConfigRefused → Result A ConfigRefused → Type 0
-Fails why.Memory reading = Unit {0}
+Fails why.Memory reading = ⊤
 Fails (why.TooLong len) reading = reading ≡ Err (why.TooLong len)
 Fails why.NotJson reading = reading ≡ Err why.NotJson
 Fails (why.Field policy name) reading = reading ≡ Err (why.Field policy name)

@@ -1,5 +1,5 @@
 -- Which texts of a configuration are in UTF-8 (RFC 8259, section 8.1): all of them.
-use Rattle.std.specs.Prelude.{Option, Some, None}
+use Rattle.std.specs.Prelude.{⊤, Option, Some, None}
 use Rattle.std.specs.List.{All}
 use Rattle.std.specs.Str.{IsUtf8}
 use Rattle.hr_base.specs.Bytes.{Text}
@@ -19,11 +19,11 @@ abbrev pub IsTextFilter : Filter → Type 0
 IsTextFilter (filter.Name pattern how) = IsText pattern
 IsTextFilter (filter.Tag pattern how) = IsText pattern
 IsTextFilter (filter.Label labels how) = All IsText labels
-IsTextFilter filter.Resource = Unit {0}
+IsTextFilter filter.Resource = ⊤
 
 -- a schedule that is, where there is one
 abbrev pub IsTextCron : Option Text → Type 0
-IsTextCron None = Unit {0}
+IsTextCron None = ⊤
 IsTextCron (Some cron) = IsText cron
 
 -- a policy whose texts are
