@@ -85,6 +85,7 @@ pub record WorkGoes (w : Work) (answer : Given) (end : LineEnd) : Type 0 where
 
 -- ---- a tag is read at the source
 
+-- the manifest of a tag was read or refused: its walk begins, or the revision ends
 abbrev pub RootGoes : Digest → Result Parts Unreadable → LineEnd → Type 0
 RootGoes root (Ok parts) end = WalkBegins root parts end
 RootGoes root (Err why) end = end ≡ Err (form_cause why root)
@@ -97,6 +98,7 @@ pub record TagCame (a : Admitted) (tag : TagName) (m : Fetched) (log after : Lis
   pub reads : IsReading m reading
   pub goes : RootGoes (digest_of m.bytes) reading end
 
+-- the source answered for the tag: a manifest came, none is there, or it failed
 abbrev pub TagFetched : Admitted → TagName → Reg → Reg → List Entry → List Entry → LineEnd
     → Result (Option Fetched) RegFault → Type 0
 TagFetched a tag f g log after end (Ok (Some m)) = TagCame a tag m log after end
@@ -120,6 +122,8 @@ decided_by true replaces = Some Same
 decided_by false true = None
 decided_by false false = Some Kept
 
+-- what a look that found this decides for a tag that is to name a digest: another one stays, where it
+-- is not to be replaced
 abbrev pub decide : Option Digest → Digest → Bool → Option How
 decide None root replaces = None
 decide (Some d) root replaces = decided_by (digest_eq d root) replaces
@@ -133,6 +137,7 @@ LookEnds a tag w found log after end (Some how) = (after
     ≡ entry_of a (what.Show tag w.walk.root found how) ∷ entry_of a (what.Looked tag found) ∷ log)
     × (end ≡ Ok None)
 
+-- the destination answered the look, or it failed
 abbrev pub LookFound : Admitted → TagName → Work → Reg → Reg → List Entry → List Entry → LineEnd
     → Result (Option Digest) RegFault → Type 0
 LookFound a tag w p q log after end (Ok found) =
@@ -149,6 +154,7 @@ pub record LookLine (a : Admitted) (tag : TagName) (w : Work) (p q : Reg) (log a
 
 -- ---- a child manifest
 
+-- the manifest of a child was read or refused: the walk takes it, or the revision ends
 abbrev pub ChildGoes : Work → Digest → Result Parts Unreadable → LineEnd → Type 0
 ChildGoes w d (Ok parts) end = WorkGoes w (given.Manifest parts) end
 ChildGoes w d (Err why) end = end ≡ Err (form_cause why d)
@@ -161,11 +167,13 @@ pub record ChildCame (a : Admitted) (w : Work) (d : Digest) (m : Fetched) (log a
   pub reads : IsReading m reading
   pub goes : ChildGoes w d reading end
 
+-- the manifest that came for the child has its digest, or another one
 abbrev pub ChildCompared : Bool → Admitted → Work → Digest → Fetched → List Entry → List Entry
     → LineEnd → Type 0
 ChildCompared true a w d m log after end = ChildCame a w d m log after end
 ChildCompared false a w d m log after end = EndsBy (cause.Differs d (digest_of m.bytes)) log after end
 
+-- the source answered for the child: a manifest came, none is there, or it failed
 abbrev pub ChildFetched : Admitted → Work → Digest → Reg → Reg → List Entry → List Entry → LineEnd
     → Result (Option Fetched) RegFault → Type 0
 ChildFetched a w d f g log after end (Ok (Some m)) =
@@ -189,6 +197,7 @@ pub record BlobFound (a : Admitted) (w : Work) (d : Digest) (len : Option ℕ) (
   pub writes : after ≡ entry_of a (what.HasBlob d len) ∷ log
   pub goes : WorkGoes w (given.Found len) end
 
+-- the destination answered whether it has the blob, or it failed
 abbrev pub BlobAsked : Admitted → Work → Digest → Reg → Reg → List Entry → List Entry → LineEnd
     → Result (Option ℕ) RegFault → Type 0
 BlobAsked a w d p q log after end (Ok len) = BlobFound a w d len log after end
@@ -252,6 +261,7 @@ pub record PutLine (a : Admitted) (w : Work) (d : Digest) (p q : Reg) (log after
 
 -- ---- the root is put
 
+-- the put of the root came out, sure or not
 abbrev pub RootStored : Admitted → TagName → Digest → Option Digest → Reg → Reg → List Entry
     → List Entry → LineEnd → Result ⊤ RegFault → Type 0
 RootStored a tag root found mid q log after end (Ok done) =
@@ -276,6 +286,7 @@ RootDecided a tag w found mid q log after end None = PutsRoot a tag w found mid 
 RootDecided a tag w found mid q log after end (Some how) = (q ≡ mid)
     × (after ≡ entry_of a (what.Show tag w.walk.root found how) ∷ log) × (end ≡ Ok None)
 
+-- the destination answered the second look, or it failed
 abbrev pub RootLooked : Admitted → TagName → Work → Reg → Reg → Reg → List Entry → List Entry
     → LineEnd → Result (Option Digest) RegFault → Type 0
 RootLooked a tag w p mid q log after end (Ok found) =

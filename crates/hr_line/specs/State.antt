@@ -13,6 +13,7 @@ pub record Link : Type 0 where
   pub reg : RegNo
   pub seen : Reg
 
+-- a lane at a moment
 pub record State : Type 0 where
   -- the connections that are read from
   pub sources : List Link
