@@ -4,9 +4,15 @@ use Rattle.std.specs.Prelude.{◌≡◌, ◌≢◌, ⊤, ℕ, IsTrue, List, [], 
 use Rattle.std.specs.List.{filter}
 use Rattle.hr_base.specs.declared.number.JobNo.{JobNo}
 use Rattle.hr_base.specs.declared.number.RegNo.{RegNo}
+use Rattle.hr_digest.specs.declared.digest.Digest.{Digest}
+use Rattle.hr_name.specs.Name.{RepoName}
+use Rattle.hr_name.specs.Tag.{TagName}
 use Rattle.hr_event.specs.declared.entry.Entry.{Entry}
-use Rattle.hr_adapter.specs.Content.{Content, Honest}
+use Rattle.hr_adapter.specs.Content.{Content, Honest, tag_at}
 use Rattle.hr_adapter.specs.Reg.{Reg}
+use Rattle.hr_journal.specs.Promise.{WasPut}
+use Rattle.hr_journal.specs.Says.{Placement}
+use Rattle.hr_journal.specs.Shown.{IsComplete}
 use Rattle.hr_line.specs.Admission.{Admits}
 use Rattle.hr_line.specs.Orderly.{IsNew}
 use Rattle.hr_line.specs.State.{AreSound, Link, State, held_at, link_at}
@@ -67,3 +73,8 @@ pub record IsDestination (s t : State) (reg : RegNo) (o c : Content) : Type 0 wh
   pub now : Reg
   pub there : link_at t.dests reg ≡ Some now
   pub tells : now.told ≡ Some c
+
+-- each tag that was put, and names that manifest still, names one whose graph is there
+abbrev pub AreComplete : Placement → List Entry → Content → Type 0
+AreComplete to log c = (repo : RepoName) (tag : TagName) (d : Digest)
+    → tag_at c repo tag ≡ Some d → WasPut to log repo tag d → IsComplete c repo d
