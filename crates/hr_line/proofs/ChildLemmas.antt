@@ -1,21 +1,18 @@
 -- The lines that copy what a walk needs have evidence for their ends: children, blobs and puts.
-use Rattle.std.proofs.Common.{◌≡◌, ◌≢◌, ◌⊎◌, inl, inr, refl, sym, ap, subst, ◌∙◌, zero, suc, ℕ, ◌+◌, ◌≤◌, ◌<◌, Bool, true, false, List, [], ◌∷◌, length, arith}
-use Rattle.std.specs.Prelude.{Option, Some, None, IfSome, Contains, Result, Ok, Err, option_map, slice_get, ⊤}
+use Rattle.std.proofs.Common.{◌≡◌, ◌≢◌, ◌⊎◌, inl, inr, refl, sym, ap, subst, ◌∙◌, suc, ℕ, ◌≤◌, ◌<◌, Bool, true, false, List, [], ◌∷◌, length, arith}
+use Rattle.std.specs.Prelude.{Option, Some, None, IfSome, Result, Ok, Err, option_map, ⊤}
 use Rattle.std.specs.List.{AllByRecursion}
 use Rattle.std.specs.Cmp.Lexicographic.{bytes_decides}
 use Rattle.hr_base.specs.Bytes.{ByteList}
 use Rattle.hr_base.specs.declared.limit.TheConstants.{MANIFEST_LIMIT}
-use Rattle.hr_base.specs.declared.number.RegNo.{RegNo}
 use Rattle.hr_cause.specs.Stream.{Rose}
 use Rattle.hr_digest.specs.Digest.{digest_of}
 use Rattle.hr_digest.specs.Order.{digest_eq}
 use Rattle.hr_digest.specs.declared.digest.Digest.{Digest}
 use Rattle.hr_digest.specs.declared.digest.Digest.TheVariants.{Sha256}
 use Rattle.hr_name.specs.Tag.{TagName}
-use Rattle.hr_event.specs.declared.cause.Cause.{Cause}
 use Rattle.hr_event.specs.declared.cause.Cause.TheVariants as cause
 use Rattle.hr_event.specs.declared.entry.Entry.{Entry}
-use Rattle.hr_event.specs.declared.entry.What.{What}
 use Rattle.hr_event.specs.declared.entry.What.TheVariants as what
 use Rattle.hr_event.specs.declared.reference.Fetched.{Fetched}
 use Rattle.hr_event.specs.declared.reference.Reference.TheVariants as by
@@ -26,7 +23,7 @@ use Rattle.hr_manifest.specs.declared.child.ChildKind.TheVariants as kind
 use Rattle.hr_manifest.specs.declared.refusal.Unreadable.{Unreadable}
 use Rattle.hr_manifest.proofs.ReadingLaws.{reads_short}
 use Rattle.hr_graph.specs.Reached.{HasLen, IsFromReading, IsOpenedFrom}
-use Rattle.hr_graph.specs.Sound.{Asks, AsksBlob, AsksManifest, IsReady, Lists}
+use Rattle.hr_graph.specs.Sound.{Asks, AsksBlob, AsksManifest, Lists}
 use Rattle.hr_graph.specs.Walk.{Answers, asked_size, newest_manifest}
 use Rattle.hr_graph.specs.declared.need.Given.TheVariants as given
 use Rattle.hr_graph.specs.declared.need.Need.{Need}
@@ -34,19 +31,18 @@ use Rattle.hr_graph.specs.declared.need.Need.TheVariants as need
 use Rattle.hr_graph.specs.declared.opened.Opened.{Opened}
 use Rattle.hr_adapter.specs.Calls.{Fetches, FindsBlob, Heads, PutsManifest}
 use Rattle.hr_adapter.specs.Content.{Content, blob_at, manifest_at}
-use Rattle.hr_adapter.specs.Put.{Has}
 use Rattle.hr_adapter.specs.Reg.{Reg}
 use Rattle.hr_adapter.specs.declared.fault.RegFault.{RegFault}
 use Rattle.hr_adapter.specs.declared.fault.RegFault.TheVariants as why
 use Rattle.hr_adapter.specs.declared.registry.TheConstants.{BLOB_LIMIT}
-use Rattle.hr_blob.specs.Copies.{Blames, Copies, Ends}
+use Rattle.hr_blob.specs.Copies.{Blames, Ends}
 use Rattle.hr_blob.specs.declared.outcome.Failing.{Failing}
 use Rattle.hr_blob.specs.declared.outcome.NotCopied.{NotCopied}
 use Rattle.hr_blob.specs.declared.outcome.NotCopied.TheVariants as copy
-use Rattle.hr_line.specs.Cause.{failing_cause, fault_cause, form_cause}
-use Rattle.hr_line.specs.Evidence.{IsLengthOf, IsRootOf, IsShown, MeasuredFor, ReachedBy, ReadFor, ReadSome, Says, digest_at, length_at}
+use Rattle.hr_line.specs.Cause.{failing_cause, fault_cause}
+use Rattle.hr_line.specs.Evidence.{IsLengthOf, IsShown, MeasuredFor, ReachedBy, ReadFor, ReadSome, Says, digest_at}
 use Rattle.hr_line.specs.Kept.{EndSeen, WorkSeen}
-use Rattle.hr_line.specs.Line.{BlobAsked, BlobFound, BlobLine, ChildCame, ChildCompared, ChildFetched, ChildGoes, ChildLine, ChildStored, CopyEnds, CopyLine, EndsBy, IsReading, LineEnd, LookEnds, LookFound, LookLine, PutLine, PutsRoot, RootDecided, RootLine, RootLooked, RootStored, WorkGoes, decide, entry_of}
+use Rattle.hr_line.specs.Line.{BlobAsked, BlobLine, ChildCompared, ChildFetched, ChildGoes, ChildLine, ChildStored, CopyEnds, CopyLine, IsReading, LineEnd, LookEnds, LookFound, LookLine, PutLine, RootDecided, RootLine, RootLooked, RootStored, decide, entry_of}
 use Rattle.hr_line.specs.declared.held.Admitted.{Admitted}
 use Rattle.hr_line.specs.declared.held.Work.{Work}
 use Rattle.hr_line.proofs.EvidenceLemmas.{goes_seen, says_later, says_now, work_later}
@@ -64,11 +60,23 @@ reached_by a log w k d seen o below is lists =
     record {
       root = w.walk.root;
       is_root = seen.root;
-      there = (suc o.level, (o.digest, from.there, (lists.child, record {
-        manifest = o.manifest;
-        read = from.read;
-        within = get_contains o.manifest.children o.next lists.child lists.listed;
-      }, lists.kind, lists.digest_is)));
+      there = (
+        suc o.level,
+        (
+          o.digest,
+          from.there,
+          (
+            lists.child,
+            record {
+              manifest = o.manifest;
+              read = from.read;
+              within = get_contains o.manifest.children o.next lists.child lists.listed;
+            },
+            lists.kind,
+            lists.digest_is,
+          ),
+        ),
+      );
     }
 
 asked_as : (w : Work) (need : Need) (a : Admitted) (log : List Entry) → WorkSeen a log w → w.walk.need ≡ need

@@ -1,38 +1,26 @@
 -- Each line of a step has evidence for its end, where the work had it before.
-use Rattle.std.proofs.Common.{◌≡◌, ◌≢◌, ◌+◌, false, ◌⊎◌, inl, inr, refl, sym, ap, subst, ◌∙◌, ℕ, ◌≤◌, ◌<◌, List, [], ◌∷◌, arith}
-use Rattle.std.specs.Prelude.{Option, Some, None, IfSome, Contains, Result, Ok, Err, ⊤}
+use Rattle.std.proofs.Common.{◌≡◌, ◌≢◌, false, ◌⊎◌, inl, inr, refl, sym, subst, ℕ, List, ◌∷◌}
+use Rattle.std.specs.Prelude.{Some, Result, Ok, Err}
 use Rattle.hr_digest.specs.Digest.{digest_of}
 use Rattle.hr_digest.specs.declared.digest.Digest.{Digest}
-use Rattle.hr_base.specs.declared.number.RegNo.{RegNo}
-use Rattle.hr_name.specs.Tag.{TagName}
-use Rattle.hr_event.specs.declared.cause.Cause.{Cause}
-use Rattle.hr_event.specs.declared.cause.Cause.TheVariants as cause
 use Rattle.hr_event.specs.declared.entry.Entry.{Entry}
 use Rattle.hr_event.specs.declared.entry.What.{What}
 use Rattle.hr_event.specs.declared.entry.What.TheVariants as what
 use Rattle.hr_event.specs.declared.reference.Fetched.{Fetched}
-use Rattle.hr_event.specs.declared.reference.Reference.TheVariants as by
 use Rattle.hr_manifest.specs.Manifest.{Parts}
-use Rattle.hr_manifest.specs.Reading.{Reads, Refuses}
-use Rattle.hr_manifest.specs.declared.refusal.Unreadable.{Unreadable}
-use Rattle.hr_manifest.specs.declared.refusal.Unreadable.TheVariants as form
-use Rattle.hr_graph.specs.Reached.{AreFromReadings, IsFromReading, IsRefusal}
-use Rattle.hr_graph.specs.Sound.{IsSound}
-use Rattle.hr_graph.specs.Step.{begun, outcome}
+use Rattle.hr_graph.specs.Reached.{IsFromReading, IsRefusal}
 use Rattle.hr_graph.specs.Walk.{Answers, View}
 use Rattle.hr_graph.specs.declared.need.Given.{Given}
-use Rattle.hr_graph.specs.declared.need.Given.TheVariants as given
-use Rattle.hr_graph.specs.declared.need.Need.TheVariants as need
 use Rattle.hr_graph.specs.declared.need.WalkRefused.{WalkRefused}
 use Rattle.hr_graph.specs.declared.need.WalkRefused.TheVariants as walk
-use Rattle.hr_graph.proofs.ReachedLaws.{begins_or_shows, goes_or_shows, read_more, reached_more}
+use Rattle.hr_graph.proofs.ReachedLaws.{begins_or_shows, goes_or_shows, read_more}
 use Rattle.hr_graph.proofs.WalkLaws.{begun_sound, step_falls}
 use Rattle.hr_adapter.specs.Reg.{Reg}
 use Rattle.hr_line.proofs.ListLemmas.{contains_first, contains_later}
 use Rattle.hr_line.specs.Cause.{walk_cause}
 use Rattle.hr_line.specs.Evidence.{IsRootOf, IsShown, MeasuredFor, ReadFor, ReadSome, Says}
 use Rattle.hr_line.specs.Kept.{EndSeen, WorkSeen}
-use Rattle.hr_line.specs.Line.{IsBeginning, IsReading, IsTaking, LineEnd, WalkBegins, WorkGoes, entry_of, walked}
+use Rattle.hr_line.specs.Line.{IsBeginning, IsTaking, LineEnd, WalkBegins, WorkGoes, entry_of, walked}
 use Rattle.hr_line.specs.declared.held.Admitted.{Admitted}
 use Rattle.hr_line.specs.declared.held.Work.{Work}
 

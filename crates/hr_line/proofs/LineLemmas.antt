@@ -1,13 +1,10 @@
 -- Each line of a step's table has evidence for its end.
-use Rattle.std.proofs.Common.{◌≡◌, ◌≢◌, ◌⊎◌, inl, inr, refl, sym, ap, subst, ◌∙◌, ℕ, ◌+◌, ◌≤◌, ◌<◌, Bool, true, false, List, ◌∷◌, length, arith}
+use Rattle.std.proofs.Common.{◌≡◌, ◌≢◌, ◌⊎◌, inl, inr, refl, sym, ap, subst, ◌∙◌, ℕ, ◌≤◌, List, ◌∷◌, length, arith}
 use Rattle.std.specs.Prelude.{Option, Some, None, IfSome, Contains, Result, Ok, Err, option_map}
 use Rattle.hr_base.specs.declared.limit.TheConstants.{MANIFEST_LIMIT}
 use Rattle.hr_digest.specs.Digest.{digest_of}
-use Rattle.hr_digest.specs.Order.{digest_eq}
 use Rattle.hr_digest.specs.declared.digest.Digest.{Digest}
-use Rattle.hr_name.specs.Name.{RepoName}
 use Rattle.hr_name.specs.Tag.{TagName}
-use Rattle.hr_event.specs.declared.cause.Cause.TheVariants as cause
 use Rattle.hr_event.specs.declared.entry.Entry.{Entry}
 use Rattle.hr_event.specs.declared.entry.What.TheVariants as what
 use Rattle.hr_event.specs.declared.reference.Fetched.{Fetched}
@@ -22,9 +19,9 @@ use Rattle.hr_adapter.specs.Reg.{IsSound, Reg, Row, AreShown}
 use Rattle.hr_adapter.specs.declared.fault.RegFault.{RegFault}
 use Rattle.hr_adapter.specs.declared.fault.RegFault.TheVariants as why
 use Rattle.hr_line.specs.Cause.{fault_cause, form_cause}
-use Rattle.hr_line.specs.Evidence.{IsLengthOf, IsRootOf, IsShown, ReadFor, ReadSome, Says}
-use Rattle.hr_line.specs.Kept.{EndSeen, WorkSeen}
-use Rattle.hr_line.specs.Line.{EndsBy, IsReading, LineEnd, RootGoes, TagCame, TagFetched, TagLine, entry_of}
+use Rattle.hr_line.specs.Evidence.{IsLengthOf, IsShown, ReadSome, Says}
+use Rattle.hr_line.specs.Kept.{EndSeen}
+use Rattle.hr_line.specs.Line.{EndsBy, IsReading, LineEnd, RootGoes, TagFetched, TagLine, entry_of}
 use Rattle.hr_line.specs.declared.held.Admitted.{Admitted}
 use Rattle.hr_line.proofs.EvidenceLemmas.{begins_seen, says_now}
 use Rattle.hr_manifest.proofs.ReadingLaws.{refuses_long}

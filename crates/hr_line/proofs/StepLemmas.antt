@@ -1,5 +1,5 @@
 -- Each line, whatever the work needs, has evidence for its end.
-use Rattle.std.proofs.Common.{◌≡◌, refl, sym, subst, Bool, true, false, List}
+use Rattle.std.proofs.Common.{◌≡◌, refl, Bool, true, false, List}
 use Rattle.std.specs.Prelude.{Option, Some, None, IfSome, Contains}
 use Rattle.hr_digest.specs.Order.{digest_eq}
 use Rattle.hr_digest.specs.declared.digest.Digest.{Digest}

@@ -1,5 +1,5 @@
 -- What an admission to a lane does, by its answer. (Our own.)
-use Rattle.std.specs.Prelude.{◌≡◌, List, ◌∷◌, Some, None}
+use Rattle.std.specs.Prelude.{◌≡◌, ◌∷◌, Some, None}
 use Rattle.hr_base.specs.declared.status.Status.TheVariants.{Running}
 use Rattle.hr_event.specs.declared.entry.What.TheVariants as what
 use Rattle.hr_line.specs.Line.{entry_of}

@@ -1,6 +1,6 @@
 -- What holds of a destination in the middle of copies: its promise, and, of the tag on which each
 -- revision is at work, that all which the walk has finished stands there. (Our own.)
-use Rattle.std.specs.Prelude.{◌≡◌, ⊤, ℕ, IsTrue, List, [], ◌∷◌, length, Option, Some, None, IfSome, Ok, Err, option_map, slice_get}
+use Rattle.std.specs.Prelude.{◌≡◌, ◌≢◌, ⊤, ℕ, IsTrue, List, [], ◌∷◌, length, Some, IfSome, Ok, option_map}
 use Rattle.std.specs.List.{AllByRecursion}
 use Rattle.hr_base.specs.declared.number.RegNo.{RegNo}
 use Rattle.hr_name.specs.Name.{RepoName}
@@ -12,6 +12,7 @@ use Rattle.hr_manifest.specs.Reading.{Reads}
 use Rattle.hr_manifest.specs.declared.child.ChildKind.TheVariants as kind
 use Rattle.hr_graph.specs.Sound.{IsSound}
 use Rattle.hr_graph.specs.Walk.{View}
+use Rattle.hr_graph.specs.declared.need.Need.TheVariants as need
 use Rattle.hr_graph.specs.declared.opened.Opened.{Opened}
 use Rattle.hr_adapter.specs.Content.{Content, Honest, blob_at}
 use Rattle.hr_adapter.specs.Reg.{Reg}
@@ -50,14 +51,21 @@ WereRead a tag log (o ∷ p ∷ below) =
 abbrev pub IsReadable : Parts → Type 0
 IsReadable parts = Reads parts.media parts.bytes parts.children
 
--- the work of a revision on a tag, where this is the content of its destination: what it has open
--- was read, and, where no digest stands for two contents, what it has finished stands there
+-- the walk of a revision over the graph of a tag, where this is the content of its destination: what
+-- it has open was read, and, where no digest stands for two contents, what it has finished stands
+-- there
+pub record WalkStands (to : Placement) (o : Content) (a : Admitted) (tag : TagName)
+    (log : List Entry) (c : Content) (view : View) : Type 0 where
+  pub read : WereRead a tag log view.opened
+  pub readable : AllByRecursion (λ opened. IsReadable opened.manifest) view.opened
+  pub standing : OneEach to o log → Standing c a.spec.to view
+
+-- the work of a revision on a tag: its walk isn't done, and stands there
 pub record WorkStands (to : Placement) (o : Content) (a : Admitted) (tag : TagName)
     (log : List Entry) (c : Content) (w : Work) : Type 0 where
   pub sound : IsSound w.walk
-  pub read : WereRead a tag log w.walk.opened
-  pub readable : AllByRecursion (λ opened. IsReadable opened.manifest) w.walk.opened
-  pub standing : OneEach to o log → Standing c a.spec.to w.walk
+  pub going : w.walk.need ≢ need.Done
+  pub walk : WalkStands to o a tag log c w.walk
 
 -- so at the end of a line, where work goes on
 abbrev pub EndStands : Placement → Content → Admitted → TagName → List Entry → Content → LineEnd → Type 0

@@ -1,6 +1,6 @@
 -- What shows the cause by which a revision ended: entries of that revision, the connections of its
 -- task, and what a source that tells has. (Our own.)
-use Rattle.std.specs.Prelude.{◌≡◌, ◌≢◌, ◌⊎◌, ◌<◌, ◌≤◌, ◌+◌, ⊤, ℕ, List, [], ◌∷◌, length, Contains, Option, Some, None, IfSome, option_map}
+use Rattle.std.specs.Prelude.{◌≡◌, ◌≢◌, ◌⊎◌, ◌<◌, ◌≤◌, ◌+◌, ⊤, ℕ, List, length, Contains, Option, Some, None, IfSome, option_map}
 use Rattle.hr_base.specs.declared.limit.TheConstants.{MANIFEST_LIMIT}
 use Rattle.hr_base.specs.declared.number.RegNo.{RegNo}
 use Rattle.hr_cause.specs.Stream.{Rose}
@@ -16,20 +16,17 @@ use Rattle.hr_event.specs.declared.entry.What.TheVariants as what
 use Rattle.hr_event.specs.declared.reference.Fetched.{Fetched}
 use Rattle.hr_event.specs.declared.reference.Reference.{Reference}
 use Rattle.hr_event.specs.declared.reference.Reference.TheVariants as by
-use Rattle.hr_event.specs.declared.task.TaskSpec.{TaskSpec}
 use Rattle.hr_manifest.specs.Manifest.{Parts}
 use Rattle.hr_manifest.specs.Reading.{Reads, Refuses}
 use Rattle.hr_manifest.specs.declared.child.ChildKind.{ChildKind}
 use Rattle.hr_manifest.specs.declared.child.ChildKind.TheVariants as kind
-use Rattle.hr_manifest.specs.declared.manifest.TheConstants.{CHILD_LIMIT}
 use Rattle.hr_manifest.specs.declared.refusal.Unreadable.{Unreadable}
 use Rattle.hr_manifest.specs.declared.refusal.Unreadable.TheVariants as form
 use Rattle.hr_graph.specs.Reached.{AreTooMany, IsReachable, IsTooDeep, IsUnsized}
 use Rattle.hr_graph.specs.declared.opened.TheConstants.{PAIR_LIMIT}
-use Rattle.hr_adapter.specs.Content.{Content, blob_at, fetch_at, manifest_at}
+use Rattle.hr_adapter.specs.Content.{Content, blob_at, manifest_at}
 use Rattle.hr_adapter.specs.Put.{Has}
 use Rattle.hr_adapter.specs.Reg.{Reg, Row}
-use Rattle.hr_adapter.specs.declared.registry.TheConstants.{BLOB_LIMIT}
 use Rattle.hr_line.specs.declared.held.Admitted.{Admitted}
 
 -- some entry of a revision says this

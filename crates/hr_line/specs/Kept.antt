@@ -1,6 +1,6 @@
 -- What stands behind a revision that is held: entries of it, for all that its walk has open or
 -- finished. (Our own.)
-use Rattle.std.specs.Prelude.{⊤, List, Option, Some, None, IfSome, Result, Ok, Err}
+use Rattle.std.specs.Prelude.{⊤, List, Some, None, Ok, Err}
 use Rattle.hr_event.specs.declared.entry.Entry.{Entry}
 use Rattle.hr_graph.specs.Reached.{AreFromReadings}
 use Rattle.hr_graph.specs.Sound.{IsSound}

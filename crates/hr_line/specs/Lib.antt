@@ -5,5 +5,7 @@ pub mod Evidence
 pub mod Kept
 pub mod Line
 pub mod Orderly
+pub mod Run
+pub mod Sources
 pub mod State
 pub mod Step

@@ -1,7 +1,7 @@
 -- What one line of a step's table does: a tag is read, a destination is looked at, or the walk gets
 -- what it needs. Each is a relation between the connections and the journal before it and after it,
 -- and its end. A journal is read newest first. (Our own, over OCI Distribution 1.1, "Pull", "Push".)
-use Rattle.std.specs.Prelude.{◌≡◌, ◌≢◌, ⊤, ℕ, Bool, true, false, not, List, ◌∷◌, length, Option, Some, None, Result, Ok, Err}
+use Rattle.std.specs.Prelude.{◌≡◌, ◌≢◌, ⊤, ℕ, Bool, true, false, not, List, ◌∷◌, Option, Some, None, Result, Ok, Err}
 use Rattle.hr_digest.specs.Digest.{digest_of}
 use Rattle.hr_digest.specs.Order.{digest_eq}
 use Rattle.hr_digest.specs.declared.digest.Digest.{Digest}
@@ -22,11 +22,9 @@ use Rattle.hr_graph.specs.Step.{begun, outcome}
 use Rattle.hr_graph.specs.Walk.{View, asked_size, newest_manifest}
 use Rattle.hr_graph.specs.declared.need.Given.{Given}
 use Rattle.hr_graph.specs.declared.need.Given.TheVariants as given
-use Rattle.hr_graph.specs.declared.need.Need.{Need}
-use Rattle.hr_graph.specs.declared.need.Need.TheVariants as need
 use Rattle.hr_graph.specs.declared.need.WalkRefused.{WalkRefused}
 use Rattle.hr_adapter.specs.Calls.{Fetches, FindsBlob, Heads, PutsManifest}
-use Rattle.hr_adapter.specs.Reg.{Reg}
+use Rattle.hr_adapter.specs.Reg.{IsSound, Reg}
 use Rattle.hr_adapter.specs.declared.fault.RegFault.{RegFault}
 use Rattle.hr_blob.specs.Copies.{Copies}
 use Rattle.hr_blob.specs.declared.outcome.NotCopied.{NotCopied}
@@ -298,6 +296,7 @@ RootLooked a tag w p mid q log after end (Err fault) = (q ≡ mid)
 pub record RootLine (a : Admitted) (tag : TagName) (w : Work) (p q : Reg) (log after : List Entry)
     (end : LineEnd) : Type 0 where
   pub mid : Reg
+  pub sound : IsSound mid
   pub found : Result (Option Digest) RegFault
   pub asks : Heads a.spec.to (by.Tag tag) p mid found
   pub finds : RootLooked a tag w p mid q log after end found

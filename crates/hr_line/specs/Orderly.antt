@@ -4,7 +4,6 @@ use Rattle.std.specs.Prelude.{◌≡◌, ◌&&◌, ℕ, nat_eq, if◌then◌else
 use Rattle.std.specs.List.{AllByRecursion}
 use Rattle.hr_base.specs.declared.number.RegNo.{RegNo}
 use Rattle.hr_name.specs.Name.{RepoName}
-use Rattle.hr_event.specs.declared.entry.Entry.{Entry}
 use Rattle.hr_journal.specs.Says.{Placement}
 use Rattle.hr_line.specs.State.{State, held_at}
 use Rattle.hr_line.specs.declared.held.Admitted.{Admitted}

@@ -1,10 +1,11 @@
 -- A lane as contracts see it: its connections, its journal and its hooks, both newest first, the
 -- revisions that were admitted to it, and those that it holds. (Our own.)
-use Rattle.std.specs.Prelude.{◌≡◌, ℕ, Bool, if◌then◌else◌, nat_eq, List, [], ◌∷◌, Option, Some, None, map}
+use Rattle.std.specs.Prelude.{◌≡◌, ℕ, if◌then◌else◌, nat_eq, List, [], ◌∷◌, Option, Some, None, map}
+use Rattle.std.specs.List.{AllByRecursion}
 use Rattle.hr_base.specs.declared.number.RegNo.{RegNo}
 use Rattle.hr_base.specs.declared.status.Hook.{Hook}
 use Rattle.hr_event.specs.declared.entry.Entry.{Entry}
-use Rattle.hr_adapter.specs.Reg.{Reg}
+use Rattle.hr_adapter.specs.Reg.{IsSound, Reg}
 use Rattle.hr_line.specs.declared.held.Admitted.{Admitted}
 use Rattle.hr_line.specs.declared.held.Held.{Held}
 
@@ -28,6 +29,10 @@ pub record State : Type 0 where
 abbrev pub link_at : List Link → RegNo → Option Reg
 link_at [] reg = None
 link_at (l ∷ more) reg = if nat_eq l.reg.0 reg.0 then Some l.seen else link_at more reg
+
+-- each of these connections is as every one is at every moment
+abbrev pub AreSound : List Link → Type 0
+AreSound links = AllByRecursion (λ (l : Link). IsSound l.seen) links
 
 -- the connections after that to one registry did something
 abbrev pub with_link : List Link → RegNo → Reg → List Link

@@ -1,6 +1,6 @@
 -- What one step of a lane does, by its answer: it does one line of the table for a job, or ends the
 -- job's revision, or gives the job up. (Our own.)
-use Rattle.std.specs.Prelude.{◌≡◌, ◌⊎◌, ◌+◌, ⊤, Bool, true, false, List, ◌∷◌, slice_get, Option, Some, None, Result, Ok, Err}
+use Rattle.std.specs.Prelude.{◌≡◌, ◌⊎◌, ◌+◌, Bool, true, false, List, ◌∷◌, slice_get, Option, Some, None, Result, Ok, Err}
 use Rattle.hr_base.specs.declared.status.Hook.{Hook}
 use Rattle.hr_base.specs.declared.status.Mark.{Mark}
 use Rattle.hr_base.specs.declared.status.Status.{Status}
