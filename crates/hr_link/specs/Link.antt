@@ -25,9 +25,14 @@ pub record Gives (coming : Option (List ByteList)) (left sent : Option ByteList)
   pub calm : faults ≡ 0
   pub rest : now ≡ option_map (drop 1) coming
 
--- no caller will come any more: where it is told, no list of bytes is left
+-- no link is left to come, where that is told
+abbrev pub IsEmpty : Option (List ByteList) → Type 0
+IsEmpty (Some coming) = coming ≡ []
+IsEmpty None = ⊤
+
+-- no caller will come any more
 pub record Closes (coming now : Option (List ByteList)) : Type 0 where
-  pub none : option_map (λ _. []) coming ≡ coming
+  pub none : IsEmpty coming
   pub unchanged : now ≡ coming
 
 -- a link that was given back, by what it was sent and its count of faults, comes behind those that

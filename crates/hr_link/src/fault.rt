@@ -1,5 +1,6 @@
 //! Why a dial or a door gives no link. (Our own.)
-ghost use Rattle.std.specs.Prelude.{◌≡◌, ◌<◌, ◌^◌};
+ghost use Rattle.std.specs.Prelude.{◌≡◌, ◌↔◌, ◌<◌, ◌^◌};
+ghost use Rattle.std.specs.IoError.{error_kind};
 ghost use Rattle.hr_cause.specs.Calls.{counted};
 
 use hr_base::Memory;
@@ -46,7 +47,9 @@ pub(crate) fn count_fault(faults: &mut u64) -> Failed
 }
 
 /// The fault that an error of the system is.
-pub(crate) fn fault_of(why: io::Error) -> DialFault {
+pub(crate) fn fault_of(why: io::Error) -> DialFault
+    ensures { (result ≡ DialFault.Memory) ↔ (error_kind why ≡ ErrorKind.OutOfMemory) }
+{
     match why.kind() {
         ErrorKind::OutOfMemory => DialFault::Memory,
         _ => DialFault::Failed,

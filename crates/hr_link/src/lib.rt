@@ -13,6 +13,8 @@ mod past_links;
 mod tcp_dial;
 mod tcp_door;
 mod tcp_link;
+#[cfg(test)]
+mod tests;
 mod turns;
 
 pub use dial::Dial;

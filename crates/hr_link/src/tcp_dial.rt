@@ -1,8 +1,10 @@
 //! A dial over TCP, which tells nothing. (Our own.)
-ghost use Rattle.std.specs.Prelude.{◌≡◌, None, IfOk};
+ghost use Rattle.std.specs.Prelude.{◌≡◌, None, IfOk, IsErrOf};
+ghost use Rattle.hr_cause.specs.Calls.{counted};
+ghost use Rattle.hr_cause.specs.Stream.{HasCause};
+ghost use Rattle.hr_link.specs.Link.{Gives, IsFailed};
 
 use crate::fault::{count_fault, fault_of};
-use crate::tcp_link::new_buffer;
 use crate::{Dial, DialFault, TcpLink};
 use hr_base::Memory;
 use hr_cause::Counted;
@@ -57,7 +59,13 @@ impl<R: Net + AllocGlobal + Clone + Drop> Dial for TcpDial<R> {
 
     /// It tries each address of the host in turn, without a limit of time. A host that isn't UTF-8
     /// is a fault.
-    fn dial(&mut self, host: &[u8], port: u16) -> Result<TcpLink<R::Stream>, DialFault> {
+    fn dial(&mut self, host: &[u8], port: u16) -> Result<TcpLink<R::Stream>, DialFault>
+        ensures ok { IfOk result (λ link. Gives None None None link.faults None) }
+        ensures unchanged { self.new.device ≡ self.old.device }
+        ensures counted { IsErrOf result DialFault.Failed
+            → self.new.faults ≡ counted self.old.faults }
+        ensures cause { HasCause IsFailed self.old.faults self.new.faults result }
+    {
         match call(&self.rt, host, port) {
             Err(DialFault::Failed) => {
                 count_fault(&mut self.faults);
@@ -68,7 +76,9 @@ impl<R: Net + AllocGlobal + Clone + Drop> Dial for TcpDial<R> {
     }
 
     /// It closes the connection.
-    fn hang_up(&mut self, link: TcpLink<R::Stream>) {
+    fn hang_up(&mut self, link: TcpLink<R::Stream>)
+        ensures { self.new ≡ self.old }
+    {
         drop(link);
     }
 
@@ -77,7 +87,7 @@ impl<R: Net + AllocGlobal + Clone + Drop> Dial for TcpDial<R> {
     }
 }
 
-// A new connection. Room for its buffer is taken first.
+// A new connection.
 fn call<R: Net + AllocGlobal>(
     rt: &R,
     host: &[u8],
@@ -85,11 +95,10 @@ fn call<R: Net + AllocGlobal>(
 ) -> Result<TcpLink<R::Stream>, DialFault>
     ensures { IfOk result (λ link. link.faults ≡ 0) }
 {
-    let buffer = new_buffer(rt.alloc())?;
     let Ok(host) = str::from_utf8(host) else {
         return Err(DialFault::Failed);
     };
     let stream = TcpStream::connect(rt, (host, port)).map_err(fault_of)?;
     let _ = stream.set_nodelay(true);
-    Ok(TcpLink::over(stream, buffer))
+    Ok(TcpLink::new(rt.alloc(), stream)?)
 }

@@ -1,9 +1,10 @@
 //! A door over TCP, which tells nothing. (Our own.)
-ghost use Rattle.std.specs.Prelude.{◌≡◌, None, IfOk};
-ghost use Rattle.hr_cause.specs.Stream.{FailsByFault};
+ghost use Rattle.std.specs.Prelude.{◌≡◌, None, IfOk, IsErrOf, IsSomeAnd, OnErr};
+ghost use Rattle.hr_cause.specs.Calls.{counted};
+ghost use Rattle.hr_cause.specs.Stream.{FailsByFault, HasCause};
+ghost use Rattle.hr_link.specs.Link.{Gives, IsFailed};
 
 use crate::fault::{count_fault, fault_of};
-use crate::tcp_link::new_buffer;
 use crate::{DialFault, Door, TcpLink};
 use hr_cause::{Counted, Failed};
 use std::io;
@@ -52,6 +53,7 @@ impl<R: Net> TcpDoor<R> {
     /// From then on callers may come. Each error of the system is a fault.
     pub fn bind(&mut self) -> Result<u16, Failed>
         ensures unchanged { self.new.device ≡ self.old.device }
+        ensures counted { OnErr result (self.new.faults ≡ counted self.old.faults) }
         ensures cause { FailsByFault self.old.faults self.new.faults result }
     {
         match bound(&self.rt, self.port, &mut self.listener) {
@@ -78,7 +80,14 @@ impl<R: Net + AllocGlobal + Drop> Door for TcpDoor<R> {
 
     /// It binds the port where it isn't bound yet. It never answers `None`. A port that can't be
     /// bound is a fault, and so is a caller that goes away before it is let in.
-    fn accept(&mut self) -> Result<Option<TcpLink<R::Stream>>, DialFault> {
+    fn accept(&mut self) -> Result<Option<TcpLink<R::Stream>>, DialFault>
+        ensures ok { IfOk result (λ found.
+            IsSomeAnd found (λ link. Gives None None None link.faults None)) }
+        ensures unchanged { self.new.device ≡ self.old.device }
+        ensures counted { IsErrOf result DialFault.Failed
+            → self.new.faults ≡ counted self.old.faults }
+        ensures cause { HasCause IsFailed self.old.faults self.new.faults result }
+    {
         match let_in(&self.rt, self.port, &mut self.listener) {
             Err(DialFault::Failed) => {
                 count_fault(&mut self.faults);
@@ -90,12 +99,14 @@ impl<R: Net + AllocGlobal + Drop> Door for TcpDoor<R> {
     }
 
     /// It closes the connection.
-    fn hang_up(&mut self, link: TcpLink<R::Stream>) {
+    fn hang_up(&mut self, link: TcpLink<R::Stream>)
+        ensures { self.new ≡ self.old }
+    {
         drop(link);
     }
 }
 
-// The next caller's connection. Room for its buffer is taken first.
+// The next caller's connection.
 fn let_in<R: Net + AllocGlobal>(
     rt: &R,
     port: u16,
@@ -103,14 +114,13 @@ fn let_in<R: Net + AllocGlobal>(
 ) -> Result<TcpLink<R::Stream>, DialFault>
     ensures { IfOk result (λ link. link.faults ≡ 0) }
 {
-    let buffer = new_buffer(rt.alloc())?;
     bound(rt, port, listener).map_err(fault_of)?;
     let Some(listener) = listener else {
         return Err(DialFault::Failed);
     };
     let (stream, _) = listener.accept().map_err(fault_of)?;
     let _ = stream.set_nodelay(true);
-    Ok(TcpLink::over(stream, buffer))
+    Ok(TcpLink::new(rt.alloc(), stream)?)
 }
 
 // Binds a port on all addresses, those of both versions of IP where the system has both.
