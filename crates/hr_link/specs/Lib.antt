@@ -1,0 +1,4 @@
+pub mod Link
+pub mod MemDial
+pub mod MemDoor
+pub mod MemLink
