@@ -14,7 +14,7 @@ use Rattle.hr_filter.specs.declared.filter.Decoration.{Decoration}
 use Rattle.hr_filter.specs.declared.filter.Decoration.TheVariants as decoration
 use Rattle.hr_setting.specs.Address.{is_base}
 use Rattle.hr_setting.specs.Member.{must, passing, text_in}
-use Rattle.hr_setting.specs.Path.{is_path}
+use Rattle.hr_tree.specs.Path.{is_path}
 use Rattle.hr_policy.specs.declared.config.Kind.{Kind}
 use Rattle.hr_policy.specs.declared.config.Kind.TheVariants as kind
 use Rattle.hr_policy.specs.declared.choice.FilterKind.{FilterKind}

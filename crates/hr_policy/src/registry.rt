@@ -12,7 +12,8 @@ use crate::refusal::refused;
 use crate::{ConfigRefused, Key, Kind, RegAt};
 use hr_base::{Bytes, List, Memory, RegNo};
 use hr_json::{Items, Node};
-use hr_setting::{is_base, is_path, text_at, whole_at};
+use hr_setting::{is_base, text_at, whole_at};
+use hr_tree::is_path;
 use std::alloc::Global;
 
 /// The registries of a list, in order.

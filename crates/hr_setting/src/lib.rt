@@ -4,10 +4,8 @@
 
 mod address;
 mod member;
-mod path;
 #[cfg(test)]
 mod tests;
 
 pub use address::is_base;
 pub use member::{flag_or, list_at, list_in, short_text_at, text_at, text_in, whole_at, whole_or};
-pub use path::is_path;

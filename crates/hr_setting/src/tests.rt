@@ -1,4 +1,4 @@
-use crate::{is_base, is_path};
+use crate::is_base;
 use std::test::Fail;
 
 // By the URL Standard's hosts and ports, and the rule for a base.
@@ -31,22 +31,4 @@ fn a_base_is_a_scheme_a_host_and_a_port_alone(rt: HostRuntime) -> Result<(), Fai
         assert_eq!(rt; is_base(alloc, text)?, expected, "{text:?}");
     }
     Ok(())
-}
-
-#[test]
-fn a_path_leads_down(rt: HostRuntime) {
-    let cases: [(&[u8], bool); 9] = [
-        (b"a", true),
-        (b"a/b.txt", true),
-        (b"...", true),
-        (b"", false),
-        (b"/a", false),
-        (b"a/", false),
-        (b"a//b", false),
-        (b"a/./b", false),
-        (b"..", false),
-    ];
-    for (text, expected) in cases {
-        assert_eq!(rt; is_path(text), expected, "{text:?}");
-    }
 }

@@ -10,6 +10,10 @@ is_item name =
     (not (length name == 0) && not (pointwise nat_eq name (codes ".")))
     && not (pointwise nat_eq name (codes ".."))
 
--- a path: names with `/` between them, each of which a folder can have
+-- whether a text is a path: names with `/` between them, each of which a folder can have
+abbrev pub is_path : Text → Bool
+is_path text = list_all is_item (slice_split (λ byte. byte == 47) text)
+
+-- a path
 abbrev pub IsPath : Text → Type 0
-IsPath text = IsTrue (list_all is_item (slice_split (λ byte. byte == 47) text))
+IsPath text = IsTrue (is_path text)

@@ -1,11 +1,11 @@
 //! The paths of files. (Our own.)
-ghost use Rattle.std.specs.Prelude.{◌≡◌, ◌↔◌, IsTrue};
-ghost use Rattle.hr_tree.specs.Path.{is_item, IsPath};
+ghost use Rattle.std.specs.Prelude.{◌≡◌};
+ghost use Rattle.hr_tree.specs.Path.{is_item, is_path};
 
 /// Whether a text is a path: names with `/` between them, of which none is empty, `.` or `..`. So a
 /// path leads nowhere but below the folder that it begins in.
 pub fn is_path(text: &[u8]) -> bool
-    ensures { IsTrue result ↔ IsPath text.now }
+    ensures { result ≡ is_path text.now }
 {
     text.split(|byte| *byte == b'/').all(|name| is_item(name))
 }

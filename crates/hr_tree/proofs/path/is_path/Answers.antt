@@ -1,5 +1,4 @@
-use Rattle.std.proofs.Common.{◌≡◌, nat_eq, rules, sym, ◌∙◌}
-use Rattle.std.specs.List.{list_all, slice_split}
+use Rattle.std.proofs.Common.{nat_eq, rules}
 use Rattle.std.proofs.lemmas.Iterator.Search.{all_from_yields_List}
 use Rattle.std.proofs.lemmas.Iterator.Splits.{YieldsList-from_slice_split}
 use borrow.Author.Tests.{tests}
@@ -8,9 +7,7 @@ use Rattle.hr_tree.proofs.path.is_path.Goals as goal
 
 pub returns : goal.returns
 returns c =
-    let same : c.all.result ≡ list_all is_item (slice_split (λ byte. nat_eq byte 47) c.args.text.now)
-    = all_from_yields_List is_item _ _ c.all.result c.all.ensures.ran
+    all_from_yields_List is_item _ _ c.all.result c.all.ensures.ran
     (YieldsList-from_slice_split _ (λ byte. nat_eq byte 47) c.args.text.now c.split.ensures.rest c.split.ensures.done c.split.ensures.closure
     (λ x b q k. search (rules, tests)))
-    (λ x b q k. search (rules, tests)) in
-    (λ all. sym same ∙ all, λ all. same ∙ all)
+    (λ x b q k. search (rules, tests))
