@@ -1,0 +1,7 @@
+mod BodyLemmas
+mod MessageLemmas
+mod ReplyLemmas
+mod RequestLemmas
+mod WrittenLemmas
+mod LawLemmas
+mod BackLemmas
