@@ -1,7 +1,10 @@
 mod CalmLemmas
 pub mod ChildLemmas
 mod DestinationLemmas
+mod EndLemmas
 pub mod EvidenceLemmas
+mod FinalLemmas
+mod FinishLemmas
 mod KeptLemmas
 mod LastLemmas
 pub mod LineLemmas

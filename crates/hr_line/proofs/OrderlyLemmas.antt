@@ -32,7 +32,7 @@ use Rattle.hr_line.proofs.WroteLemmas.{line_wrote}
 
 -- ---- what was admitted
 
-both_true : (a b : Bool) → (a && b) ≡ true → (a ≡ true) × (b ≡ true)
+pub both_true : (a b : Bool) → (a && b) ≡ true → (a ≡ true) × (b ≡ true)
 both_true true b is = (refl, is)
 both_true false b is = cc
 

@@ -1,17 +1,21 @@
 -- What holds of a lane after every run: its order, its promises, and what it read.
-use Rattle.std.proofs.Common.{◌≡◌, inl, inr, refl, sym, ap, subst, ◌∙◌, ℕ, List, [], ◌∷◌, ◌++◌}
-use Rattle.std.specs.Prelude.{◌≢◌, Option, Some, None, IfSome, IsSome, IsTrue, map, nat_eq}
+use Rattle.std.proofs.Common.{◌≡◌, ◌≤◌, inl, inr, refl, sym, ap, subst, ◌∙◌, ℕ, List, [], ◌∷◌, ◌++◌, length, arith}
+use Rattle.std.specs.Prelude.{◌≢◌, Option, Some, None, IfSome, IsSome, IsTrue, map, nat_eq, Contains, take}
 use Rattle.std.specs.List.{AllByRecursion}
 use Rattle.hr_base.specs.declared.number.JobNo.{JobNo}
 use Rattle.hr_base.specs.declared.number.RegNo.{RegNo}
 use Rattle.hr_event.specs.declared.entry.Entry.{Entry}
 use Rattle.hr_event.specs.declared.entry.What.{What}
+use Rattle.hr_event.specs.declared.entry.What.TheVariants as what
+use Rattle.hr_event.specs.declared.cause.Cause.{Cause}
+use Rattle.hr_base.specs.declared.status.Status.{Status}
 use Rattle.hr_adapter.specs.Content.{Content, Honest}
 use Rattle.hr_adapter.specs.Reg.{Reg}
 use Rattle.hr_journal.specs.Origin.{WereThere}
 use Rattle.hr_journal.specs.Promise.{Promise}
 use Rattle.hr_journal.proofs.ListLaws.{each_has, each_then}
 use Rattle.hr_journal.proofs.PromiseLaws.{promise_opens}
+use Rattle.hr_line.specs.Finals.{EndHolds, EndOnce, EndsHold, IsFinished, SaysEnd, endings}
 use Rattle.hr_line.specs.Destination.{AreKept, HeldStands, IsKept}
 use Rattle.hr_line.specs.Line.{entry_of}
 use Rattle.hr_line.specs.Orderly.{IsHeldAs, IsOrderly, admitted_at, placement}
@@ -22,6 +26,8 @@ use Rattle.hr_line.specs.Step.{Step}
 use Rattle.hr_line.specs.declared.answer.Stepped.{Stepped}
 use Rattle.hr_line.specs.declared.held.Admitted.{Admitted}
 use Rattle.hr_line.specs.declared.held.Held.{Held}
+use Rattle.hr_line.proofs.EndLemmas.{admits_hold, step_holds}
+use Rattle.hr_line.proofs.FinalLemmas.{admits_once, step_once}
 use Rattle.hr_line.proofs.KeptLemmas.{admits_keeps, step_keeps}
 use Rattle.hr_line.proofs.LinkLemmas.{equal_false, equal_true, held_other, if_false, if_true, number_cases, registry_same}
 use Rattle.hr_line.proofs.OrderlyLemmas.{Turned, admits_orderly, is_held, step_orderly, turned}
@@ -112,6 +118,56 @@ runs_keep [] s t opening sound runs =
     })
 runs_keep (call ∷ before) s t opening sound (mid, ran, sources, dests, happens) =
     happens_on call s mid t (runs_keep before s mid opening sources ran) sources dests sound happens
+
+-- ---- ends
+
+pub opening_once : (s : State) → IsOpening s → EndOnce s
+opening_once s opening = record {
+  once = λ job rev. subst (λ (es : List Entry). length (endings job rev es) ≤ 1) (sym opening.log) (omega arith);
+  going = λ job. subst (λ (hs : List Held). IfSome (held_at hs job) (λ h. endings h.by.job.0 h.by.rev s.log ≡ [])) (sym opening.held) tt;
+}
+
+pub opening_ends : (s : State) → IsOpening s → EndsHold s
+opening_ends s opening = record {
+  logged = subst (λ (es : List Entry). AllByRecursion (λ e. IfSome (admitted_at s.admitted e.job.0 e.rev) (λ a. SaysEnd a s.log e.what)) es)
+      (sym opening.log) tt;
+  held = λ job.
+      subst (λ (hs : List Held). IfSome (held_at hs job) (λ h. AllByRecursion (IsFinished h.by s.log) (take h.next h.by.spec.tags)))
+      (sym opening.held) tt;
+}
+
+-- what holds of the ends of revisions after a run
+pub record HasEnds (t : State) : Type 0 where
+  pub orderly : IsOrderly t
+  pub once : EndOnce t
+  pub ends : EndsHold t
+
+happens_ends : (call : Call) (s t : State) → HasEnds s → Happens call s t → HasEnds t
+happens_ends (Call.admit a answer) s t had happens = record {
+  orderly = admits_orderly s t a answer had.orderly happens.0 happens.1;
+  once = admits_once s t a answer had.orderly happens.0 had.once happens.1;
+  ends = admits_hold s t a answer had.orderly happens.0 had.ends happens.1;
+}
+happens_ends (Call.step job answer) s t had happens = record {
+  orderly = step_orderly s t job answer had.orderly happens;
+  once = step_once s t job answer had.orderly had.once happens;
+  ends = step_holds s t job answer had.orderly had.ends happens;
+}
+
+pub runs_end : (calls : List Call) (s t : State) → IsOpening s → Runs calls s t → HasEnds t
+runs_end [] s t opening runs =
+    subst HasEnds (sym runs)
+    (record { orderly = opening_orderly s opening; once = opening_once s opening; ends = opening_ends s opening })
+runs_end (call ∷ before) s t opening (mid, ran, sources, dests, happens) =
+    happens_ends call mid t (runs_end before s mid opening ran) happens
+
+-- an end that the journal has is one that it shows
+pub end_shown : (t : State) (e : Entry) (a : Admitted) (status : Status) (cause : Option Cause) → EndsHold t → Contains t.log e
+    → admitted_at t.admitted e.job.0 e.rev ≡ Some a → e.what ≡ what.Ended status cause → EndHolds a t.log status cause
+end_shown t e a status cause holds within admitted says =
+    subst (λ (w : What). SaysEnd a t.log w) says
+    (subst (λ (x : Option Admitted). IfSome x (λ b. SaysEnd b t.log e.what)) admitted
+    (each_has (λ (x : Entry). IfSome (admitted_at t.admitted x.job.0 x.rev) (λ b. SaysEnd b t.log x.what)) t.log holds.logged e within))
 
 -- ---- a destination
 

@@ -2,6 +2,7 @@ pub mod Admission
 pub mod Cause
 pub mod Destination
 pub mod Evidence
+pub mod Finals
 pub mod Kept
 pub mod Line
 pub mod Orderly

@@ -1,14 +1,16 @@
 //! Laws of the lines of a step, and of the steps of a lane: what holds after every call, and after
 //! every run. (Our own.)
-ghost use Rattle.std.specs.Prelude.{◌≡◌, List, ◌∷◌, ◌++◌, Contains, Option, Some, IfSome};
+ghost use Rattle.std.specs.Prelude.{◌≡◌, ◌≤◌, ℕ, length, List, ◌∷◌, ◌++◌, Contains, Option, Some, IfSome};
 ghost use Rattle.hr_base.specs.declared.number.JobNo.{JobNo};
 ghost use Rattle.hr_base.specs.declared.number.RegNo.{RegNo};
+ghost use Rattle.hr_base.specs.declared.status.Status.{Status};
 ghost use Rattle.hr_digest.specs.declared.digest.Digest.{Digest};
 ghost use Rattle.hr_name.specs.Name.{RepoName};
 ghost use Rattle.hr_name.specs.Tag.{TagName};
+ghost use Rattle.hr_event.specs.declared.cause.Cause.{Cause};
 ghost use Rattle.hr_event.specs.declared.entry.Entry.{Entry};
 ghost use Rattle.hr_event.specs.declared.entry.How.{How};
-ghost use Rattle.hr_event.specs.declared.entry.What.TheVariants.{Show};
+ghost use Rattle.hr_event.specs.declared.entry.What.TheVariants.{Ended, Show};
 ghost use Rattle.hr_adapter.specs.Content.{Content};
 ghost use Rattle.hr_adapter.specs.Reg.{IsSound, Reg};
 ghost use Rattle.hr_journal.specs.OneEach.{OneEach};
@@ -18,9 +20,10 @@ ghost use Rattle.hr_journal.specs.Says.{placed};
 ghost use Rattle.hr_journal.specs.Shown.{WasRead};
 ghost use Rattle.hr_line.specs.Admission.{Admits};
 ghost use Rattle.hr_line.specs.Destination.{AreKept};
+ghost use Rattle.hr_line.specs.Finals.{EndHolds, EndOnce, EndsHold, endings};
 ghost use Rattle.hr_line.specs.Kept.{EndSeen, WorkSeen};
 ghost use Rattle.hr_line.specs.Line.{LineEnd};
-ghost use Rattle.hr_line.specs.Orderly.{IsNew, IsOrderly, placement};
+ghost use Rattle.hr_line.specs.Orderly.{IsNew, IsOrderly, admitted_at, placement};
 ghost use Rattle.hr_line.specs.Run.{AreComplete, Call, IsDestination, IsOpening, OthersStay, Runs};
 ghost use Rattle.hr_line.specs.Sources.{AreSourced, origin};
 ghost use Rattle.hr_line.specs.State.{AreSound, Link, State};
@@ -119,3 +122,31 @@ pub fn tags_of_runs_are_complete()
     digests_stand_for_one_text();
     tags_were_read();
 }
+
+/// A law: no revision ends twice: the journal has at most one final status of each, and none of one
+/// that is held.
+pub fn revisions_end_once()
+    ensures opens { (s : State) → IsOpening s → EndOnce s }
+    ensures admits { (s t : State) (a : Admitted) (answer : Admit)
+        → IsOrderly s → IsNew s.admitted a → EndOnce s → Admits s t a answer → EndOnce t }
+    ensures steps { (s t : State) (job : JobNo) (answer : Stepped)
+        → IsOrderly s → EndOnce s → Step s t job answer → EndOnce t }
+    ensures runs { (calls : List Call) (s t : State) (job rev : ℕ)
+        → IsOpening s → Runs calls s t → length (endings job rev t.log) ≤ 1 }
+{}
+
+/// A law: a revision ends with success only where its journal has an entry of each of its tags that
+/// it was put, was the same already, or is another one that is kept; and with an error only by a
+/// cause.
+pub fn ends_are_what_the_journal_shows()
+    ensures opens { (s : State) → IsOpening s → EndsHold s }
+    ensures admits { (s t : State) (a : Admitted) (answer : Admit)
+        → IsOrderly s → IsNew s.admitted a → EndsHold s → Admits s t a answer → EndsHold t }
+    ensures steps { (s t : State) (job : JobNo) (answer : Stepped)
+        → IsOrderly s → EndsHold s → Step s t job answer → EndsHold t }
+    ensures runs { (calls : List Call) (s t : State) (e : Entry) (a : Admitted)
+        → (status : Status) (cause : Option Cause)
+        → IsOpening s → Runs calls s t → Contains t.log e
+        → admitted_at t.admitted e.job.0 e.rev ≡ Some a → e.what ≡ Ended status cause
+        → EndHolds a t.log status cause }
+{}
