@@ -1,4 +1,5 @@
 mod CalmLemmas
+mod CauseLemmas
 pub mod ChildLemmas
 mod DestinationLemmas
 mod EndLemmas
@@ -7,6 +8,7 @@ mod FinalLemmas
 mod FinishLemmas
 mod KeptLemmas
 mod LastLemmas
+mod LaterLemmas
 pub mod LineLemmas
 mod LinkLemmas
 mod ListLemmas
@@ -14,6 +16,7 @@ mod OrderlyLemmas
 mod OriginLemmas
 mod PutLemmas
 mod RunLemmas
+mod ShownLemmas
 mod SourceLemmas
 mod StandsLemmas
 pub mod StepLemmas

@@ -1,5 +1,6 @@
 pub mod Admission
 pub mod Cause
+pub mod Causes
 pub mod Destination
 pub mod Evidence
 pub mod Finals
