@@ -6,6 +6,7 @@ mod EndLemmas
 pub mod EvidenceLemmas
 mod FinalLemmas
 mod FinishLemmas
+mod HookLemmas
 mod KeptLemmas
 mod LastLemmas
 mod LaterLemmas

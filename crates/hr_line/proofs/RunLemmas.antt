@@ -1,7 +1,7 @@
 -- What holds of a lane after every run: its order, its promises, and what it read.
 use Rattle.std.proofs.Common.{◌≡◌, ◌≤◌, inl, inr, refl, sym, ap, subst, ◌∙◌, ℕ, List, [], ◌∷◌, ◌++◌, length, arith}
 use Rattle.std.specs.Prelude.{◌≢◌, Option, Some, None, IfSome, IsSome, IsTrue, map, nat_eq, Contains, take}
-use Rattle.std.specs.List.{AllByRecursion}
+use Rattle.std.specs.List.{AllByRecursion, filter_map}
 use Rattle.hr_base.specs.declared.number.JobNo.{JobNo}
 use Rattle.hr_base.specs.declared.number.RegNo.{RegNo}
 use Rattle.hr_event.specs.declared.entry.Entry.{Entry}
@@ -16,6 +16,7 @@ use Rattle.hr_journal.specs.Promise.{Promise}
 use Rattle.hr_journal.proofs.ListLaws.{each_has, each_then}
 use Rattle.hr_journal.proofs.PromiseLaws.{promise_opens}
 use Rattle.hr_line.specs.Causes.{AreCausesShown, IsCauseShown, SaysCause}
+use Rattle.hr_line.specs.Hooks.{HooksTell, hook_from}
 use Rattle.hr_line.specs.Kept.{WorkSeen}
 use Rattle.hr_line.specs.Finals.{EndHolds, EndOnce, EndsHold, IsFinished, SaysEnd, endings}
 use Rattle.hr_line.specs.Destination.{AreKept, HeldStands, IsKept}
@@ -31,6 +32,7 @@ use Rattle.hr_line.specs.declared.held.Held.{Held}
 use Rattle.hr_line.proofs.CauseLemmas.{admits_causes, step_causes}
 use Rattle.hr_line.proofs.EndLemmas.{admits_hold, step_holds}
 use Rattle.hr_line.proofs.FinalLemmas.{admits_once, step_once}
+use Rattle.hr_line.proofs.HookLemmas.{admits_hooks, step_hooks}
 use Rattle.hr_line.proofs.KeptLemmas.{admits_keeps, step_keeps}
 use Rattle.hr_line.proofs.LinkLemmas.{equal_false, equal_true, held_other, if_false, if_true, number_cases, registry_same}
 use Rattle.hr_line.proofs.OrderlyLemmas.{Turned, admits_orderly, is_held, step_orderly, turned}
@@ -151,19 +153,26 @@ opening_ends s opening = record {
       (sym opening.held) tt;
 }
 
+pub opening_hooks : (s : State) → IsOpening s → HooksTell s
+opening_hooks s opening =
+    opening.hooks ∙ ap (λ (es : List Entry). filter_map (λ e. hook_from e.job e.rev e.what) es) (sym opening.log)
+
 -- what holds of the ends of revisions after a run
 pub record HasEnds (t : State) : Type 0 where
+  pub hooks : HooksTell t
   pub orderly : IsOrderly t
   pub once : EndOnce t
   pub ends : EndsHold t
 
 happens_ends : (call : Call) (s t : State) → HasEnds s → Happens call s t → HasEnds t
 happens_ends (Call.admit a answer) s t had happens = record {
+  hooks = admits_hooks s t a answer happens.1 had.hooks;
   orderly = admits_orderly s t a answer had.orderly happens.0 happens.1;
   once = admits_once s t a answer had.orderly happens.0 had.once happens.1;
   ends = admits_hold s t a answer had.orderly happens.0 had.ends happens.1;
 }
 happens_ends (Call.step job answer) s t had happens = record {
+  hooks = step_hooks s t job answer happens had.hooks;
   orderly = step_orderly s t job answer had.orderly happens;
   once = step_once s t job answer had.orderly had.once happens;
   ends = step_holds s t job answer had.orderly had.ends happens;
@@ -171,8 +180,12 @@ happens_ends (Call.step job answer) s t had happens = record {
 
 pub runs_end : (calls : List Call) (s t : State) → IsOpening s → Runs calls s t → HasEnds t
 runs_end [] s t opening runs =
-    subst HasEnds (sym runs)
-    (record { orderly = opening_orderly s opening; once = opening_once s opening; ends = opening_ends s opening })
+    subst HasEnds (sym runs) (record {
+      hooks = opening_hooks s opening;
+      orderly = opening_orderly s opening;
+      once = opening_once s opening;
+      ends = opening_ends s opening;
+    })
 runs_end (call ∷ before) s t opening (mid, ran, sources, dests, happens) =
     happens_ends call mid t (runs_end before s mid opening ran) happens
 

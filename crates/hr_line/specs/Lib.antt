@@ -4,6 +4,7 @@ pub mod Causes
 pub mod Destination
 pub mod Evidence
 pub mod Finals
+pub mod Hooks
 pub mod Kept
 pub mod Line
 pub mod Orderly

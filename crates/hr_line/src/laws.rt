@@ -22,6 +22,7 @@ ghost use Rattle.hr_line.specs.Admission.{Admits};
 ghost use Rattle.hr_line.specs.Causes.{AreCausesShown, IsCauseShown};
 ghost use Rattle.hr_line.specs.Destination.{AreKept};
 ghost use Rattle.hr_line.specs.Finals.{EndHolds, EndOnce, EndsHold, endings};
+ghost use Rattle.hr_line.specs.Hooks.{HooksTell};
 ghost use Rattle.hr_line.specs.Kept.{EndSeen, WorkSeen};
 ghost use Rattle.hr_line.specs.Line.{LineEnd};
 ghost use Rattle.hr_line.specs.Orderly.{IsNew, IsOrderly, admitted_at, placement};
@@ -168,4 +169,16 @@ pub fn causes_stay_shown()
         → IsOpening s → AreSound t.sources → Runs calls s t → Contains t.log e
         → admitted_at t.admitted e.job.0 e.rev ≡ Some a → e.what ≡ Ended status (Some why)
         → IsCauseShown t a why }
+{}
+
+/// A law: a lane has given one hook of each revision that began, and one of each that ended, with
+/// that status, in the order of its journal, and no other.
+pub fn hooks_go_with_the_journal()
+    ensures opens { (s : State) → IsOpening s → HooksTell s }
+    ensures admits { (s t : State) (a : Admitted) (answer : Admit)
+        → Admits s t a answer → HooksTell s → HooksTell t }
+    ensures steps { (s t : State) (job : JobNo) (answer : Stepped)
+        → Step s t job answer → HooksTell s → HooksTell t }
+    ensures runs { (calls : List Call) (s t : State)
+        → IsOpening s → Runs calls s t → HooksTell t }
 {}
