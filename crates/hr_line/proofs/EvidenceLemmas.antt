@@ -45,7 +45,7 @@ says_later a e log said s = record {
   says = s.says;
 }
 
-some_later : (a : Admitted) (e : Entry) (log : List Entry) (m : Fetched) → ReadSome a log m → ReadSome a (e ∷ log) m
+pub some_later : (a : Admitted) (e : Entry) (log : List Entry) (m : Fetched) → ReadSome a log m → ReadSome a (e ∷ log) m
 some_later a e log m (ReadSome.tagged tag s) = ReadSome.tagged tag (says_later a e log (what.ReadTag tag m.media m.bytes) s)
 some_later a e log m (ReadSome.child d s) = ReadSome.child d (says_later a e log (what.ReadChild d m.media m.bytes) s)
 

@@ -1,12 +1,15 @@
 mod CalmLemmas
+mod CauseLemmas
 pub mod ChildLemmas
 mod DestinationLemmas
 mod EndLemmas
 pub mod EvidenceLemmas
 mod FinalLemmas
 mod FinishLemmas
+mod HookLemmas
 mod KeptLemmas
 mod LastLemmas
+mod LaterLemmas
 pub mod LineLemmas
 mod LinkLemmas
 mod ListLemmas
@@ -14,6 +17,7 @@ mod OrderlyLemmas
 mod OriginLemmas
 mod PutLemmas
 mod RunLemmas
+mod ShownLemmas
 mod SourceLemmas
 mod StandsLemmas
 pub mod StepLemmas

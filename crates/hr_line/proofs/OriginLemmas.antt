@@ -36,7 +36,7 @@ sourced_same sources other admitted others log links all there =
     subst (λ (ls : List Link). WereThere (origin ls others) log) (sym links)
     (subst (λ (as_now : List Admitted). WereThere (origin sources as_now) log) (sym all) there)
 
-sound_at : (links : List Link) (r : RegNo) (seen : Reg) → AreSound links → link_at links r ≡ Some seen → IsSound seen
+pub sound_at : (links : List Link) (r : RegNo) (seen : Reg) → AreSound links → link_at links r ≡ Some seen → IsSound seen
 sound_at links r seen sound is = subst (λ (x : Option Reg). IfSome x IsSound) is (link_sound links r sound)
 
 -- ---- a line

@@ -1,7 +1,7 @@
 -- What holds of a lane after every run: its order, its promises, and what it read.
 use Rattle.std.proofs.Common.{◌≡◌, ◌≤◌, inl, inr, refl, sym, ap, subst, ◌∙◌, ℕ, List, [], ◌∷◌, ◌++◌, length, arith}
 use Rattle.std.specs.Prelude.{◌≢◌, Option, Some, None, IfSome, IsSome, IsTrue, map, nat_eq, Contains, take}
-use Rattle.std.specs.List.{AllByRecursion}
+use Rattle.std.specs.List.{AllByRecursion, filter_map}
 use Rattle.hr_base.specs.declared.number.JobNo.{JobNo}
 use Rattle.hr_base.specs.declared.number.RegNo.{RegNo}
 use Rattle.hr_event.specs.declared.entry.Entry.{Entry}
@@ -15,6 +15,9 @@ use Rattle.hr_journal.specs.Origin.{WereThere}
 use Rattle.hr_journal.specs.Promise.{Promise}
 use Rattle.hr_journal.proofs.ListLaws.{each_has, each_then}
 use Rattle.hr_journal.proofs.PromiseLaws.{promise_opens}
+use Rattle.hr_line.specs.Causes.{AreCausesShown, IsCauseShown, SaysCause}
+use Rattle.hr_line.specs.Hooks.{HooksTell, hook_from}
+use Rattle.hr_line.specs.Kept.{WorkSeen}
 use Rattle.hr_line.specs.Finals.{EndHolds, EndOnce, EndsHold, IsFinished, SaysEnd, endings}
 use Rattle.hr_line.specs.Destination.{AreKept, HeldStands, IsKept}
 use Rattle.hr_line.specs.Line.{entry_of}
@@ -26,8 +29,10 @@ use Rattle.hr_line.specs.Step.{Step}
 use Rattle.hr_line.specs.declared.answer.Stepped.{Stepped}
 use Rattle.hr_line.specs.declared.held.Admitted.{Admitted}
 use Rattle.hr_line.specs.declared.held.Held.{Held}
+use Rattle.hr_line.proofs.CauseLemmas.{admits_causes, step_causes}
 use Rattle.hr_line.proofs.EndLemmas.{admits_hold, step_holds}
 use Rattle.hr_line.proofs.FinalLemmas.{admits_once, step_once}
+use Rattle.hr_line.proofs.HookLemmas.{admits_hooks, step_hooks}
 use Rattle.hr_line.proofs.KeptLemmas.{admits_keeps, step_keeps}
 use Rattle.hr_line.proofs.LinkLemmas.{equal_false, equal_true, held_other, if_false, if_true, number_cases, registry_same}
 use Rattle.hr_line.proofs.OrderlyLemmas.{Turned, admits_orderly, is_held, step_orderly, turned}
@@ -39,6 +44,14 @@ pub opening_orderly : (s : State) → IsOpening s → IsOrderly s
 opening_orderly s opening = record {
   held = λ job. subst (λ (hs : List Held). IfSome (held_at hs job) (IsHeldAs s.admitted job)) (sym opening.held) tt;
   logged = subst (λ (es : List Entry). AllByRecursion (λ e. IsSome (admitted_at s.admitted e.job.0 e.rev)) es) (sym opening.log) tt;
+}
+
+pub opening_causes : (s : State) → IsOpening s → AreCausesShown s
+opening_causes s opening = record {
+  logged = subst (λ (es : List Entry). AllByRecursion (λ e. IfSome (admitted_at s.admitted e.job.0 e.rev) (λ a. SaysCause s a e.what)) es)
+      (sym opening.log) tt;
+  held = λ job.
+      subst (λ (hs : List Held). IfSome (held_at hs job) (λ h. IfSome h.work (WorkSeen h.by s.log))) (sym opening.held) tt;
 }
 
 pub opening_sourced : (s : State) → IsOpening s → AreSourced s
@@ -95,6 +108,7 @@ pub record HasRun (s t : State) : Type 0 where
   pub orderly : IsOrderly t
   pub kept : AreKept s.dests t
   pub sourced : AreSourced t
+  pub causes : AreCausesShown t
 
 happens_on : (call : Call) (s mid t : State) → HasRun s mid → AreSound mid.sources → AreSound mid.dests → AreSound t.sources
     → Happens call mid t → HasRun s t
@@ -102,11 +116,13 @@ happens_on (Call.admit a answer) s mid t ran sources dests after happens = recor
   orderly = admits_orderly mid t a answer ran.orderly happens.0 happens.1;
   kept = admits_keeps s.dests mid t a answer ran.orderly happens.0 happens.1 ran.kept;
   sourced = admits_sourced mid t a answer ran.orderly happens.0 happens.1 ran.sourced;
+  causes = admits_causes mid t a answer ran.orderly happens.0 ran.causes happens.1;
 }
 happens_on (Call.step job answer) s mid t ran sources dests after happens = record {
   orderly = step_orderly mid t job answer ran.orderly happens;
   kept = step_keeps s.dests mid t job answer ran.orderly dests happens ran.kept;
   sourced = step_sourced mid t job answer ran.orderly sources after happens ran.sourced;
+  causes = step_causes mid t job answer ran.orderly sources dests after ran.causes happens;
 }
 
 pub runs_keep : (calls : List Call) (s t : State) → IsOpening s → AreSound t.sources → Runs calls s t → HasRun s t
@@ -115,6 +131,7 @@ runs_keep [] s t opening sound runs =
       orderly = opening_orderly s opening;
       kept = opening_keeps s opening;
       sourced = opening_sourced s opening;
+      causes = opening_causes s opening;
     })
 runs_keep (call ∷ before) s t opening sound (mid, ran, sources, dests, happens) =
     happens_on call s mid t (runs_keep before s mid opening sources ran) sources dests sound happens
@@ -136,19 +153,26 @@ opening_ends s opening = record {
       (sym opening.held) tt;
 }
 
+pub opening_hooks : (s : State) → IsOpening s → HooksTell s
+opening_hooks s opening =
+    opening.hooks ∙ ap (λ (es : List Entry). filter_map (λ e. hook_from e.job e.rev e.what) es) (sym opening.log)
+
 -- what holds of the ends of revisions after a run
 pub record HasEnds (t : State) : Type 0 where
+  pub hooks : HooksTell t
   pub orderly : IsOrderly t
   pub once : EndOnce t
   pub ends : EndsHold t
 
 happens_ends : (call : Call) (s t : State) → HasEnds s → Happens call s t → HasEnds t
 happens_ends (Call.admit a answer) s t had happens = record {
+  hooks = admits_hooks s t a answer happens.1 had.hooks;
   orderly = admits_orderly s t a answer had.orderly happens.0 happens.1;
   once = admits_once s t a answer had.orderly happens.0 had.once happens.1;
   ends = admits_hold s t a answer had.orderly happens.0 had.ends happens.1;
 }
 happens_ends (Call.step job answer) s t had happens = record {
+  hooks = step_hooks s t job answer happens had.hooks;
   orderly = step_orderly s t job answer had.orderly happens;
   once = step_once s t job answer had.orderly had.once happens;
   ends = step_holds s t job answer had.orderly had.ends happens;
@@ -156,8 +180,12 @@ happens_ends (Call.step job answer) s t had happens = record {
 
 pub runs_end : (calls : List Call) (s t : State) → IsOpening s → Runs calls s t → HasEnds t
 runs_end [] s t opening runs =
-    subst HasEnds (sym runs)
-    (record { orderly = opening_orderly s opening; once = opening_once s opening; ends = opening_ends s opening })
+    subst HasEnds (sym runs) (record {
+      hooks = opening_hooks s opening;
+      orderly = opening_orderly s opening;
+      once = opening_once s opening;
+      ends = opening_ends s opening;
+    })
 runs_end (call ∷ before) s t opening (mid, ran, sources, dests, happens) =
     happens_ends call mid t (runs_end before s mid opening ran) happens
 
@@ -168,6 +196,14 @@ end_shown t e a status cause holds within admitted says =
     subst (λ (w : What). SaysEnd a t.log w) says
     (subst (λ (x : Option Admitted). IfSome x (λ b. SaysEnd b t.log e.what)) admitted
     (each_has (λ (x : Entry). IfSome (admitted_at t.admitted x.job.0 x.rev) (λ b. SaysEnd b t.log x.what)) t.log holds.logged e within))
+
+-- the cause of an error that the journal has is shown
+pub cause_shown : (t : State) (e : Entry) (a : Admitted) (status : Status) (why : Cause) → AreCausesShown t → Contains t.log e
+    → admitted_at t.admitted e.job.0 e.rev ≡ Some a → e.what ≡ what.Ended status (Some why) → IsCauseShown t a why
+cause_shown t e a status why shown within admitted says =
+    subst (λ (w : What). SaysCause t a w) says
+    (subst (λ (x : Option Admitted). IfSome x (λ b. SaysCause t b e.what)) admitted
+    (each_has (λ (x : Entry). IfSome (admitted_at t.admitted x.job.0 x.rev) (λ b. SaysCause t b x.what)) t.log shown.logged e within))
 
 -- ---- a destination
 

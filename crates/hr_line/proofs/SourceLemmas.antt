@@ -51,7 +51,7 @@ both_itself : (told : Option Content) → BothOrNeither Retagged told told
 both_itself (Some c) = Retagged-itself c
 both_itself None = tt
 
-read_same : (f g : Reg) → g ≡ f → IsRead f g
+pub read_same : (f g : Reg) → g ≡ f → IsRead f g
 read_same f g same = subst (λ (x : Reg). IsRead f x) (sym same) (record { told = both_itself f.told; ever = refl })
 
 asked_read : {T : Type 0} (f g : Reg) (result : Result T RegFault) → IsSound f → Asks f g result → IsRead f g

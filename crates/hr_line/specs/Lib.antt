@@ -1,8 +1,10 @@
 pub mod Admission
 pub mod Cause
+pub mod Causes
 pub mod Destination
 pub mod Evidence
 pub mod Finals
+pub mod Hooks
 pub mod Kept
 pub mod Line
 pub mod Orderly

@@ -19,8 +19,10 @@ ghost use Rattle.hr_journal.specs.Promise.{Promise};
 ghost use Rattle.hr_journal.specs.Says.{placed};
 ghost use Rattle.hr_journal.specs.Shown.{WasRead};
 ghost use Rattle.hr_line.specs.Admission.{Admits};
+ghost use Rattle.hr_line.specs.Causes.{AreCausesShown, IsCauseShown};
 ghost use Rattle.hr_line.specs.Destination.{AreKept};
 ghost use Rattle.hr_line.specs.Finals.{EndHolds, EndOnce, EndsHold, endings};
+ghost use Rattle.hr_line.specs.Hooks.{HooksTell};
 ghost use Rattle.hr_line.specs.Kept.{EndSeen, WorkSeen};
 ghost use Rattle.hr_line.specs.Line.{LineEnd};
 ghost use Rattle.hr_line.specs.Orderly.{IsNew, IsOrderly, admitted_at, placement};
@@ -149,4 +151,34 @@ pub fn ends_are_what_the_journal_shows()
         → IsOpening s → Runs calls s t → Contains t.log e
         → admitted_at t.admitted e.job.0 e.rev ≡ Some a → e.what ≡ Ended status cause
         → EndHolds a t.log status cause }
+{}
+
+/// A law: the cause of each error goes on being shown, by the journal and by the two connections of
+/// the revision as they are then; and all that the walk of a revision which is held has open or
+/// finished was read or found by it.
+pub fn causes_stay_shown()
+    ensures opens { (s : State) → IsOpening s → AreCausesShown s }
+    ensures admits { (s t : State) (a : Admitted) (answer : Admit)
+        → IsOrderly s → IsNew s.admitted a → AreCausesShown s → Admits s t a answer
+        → AreCausesShown t }
+    ensures steps { (s t : State) (job : JobNo) (answer : Stepped)
+        → IsOrderly s → AreSound s.sources → AreSound s.dests → AreSound t.sources
+        → AreCausesShown s → Step s t job answer → AreCausesShown t }
+    ensures runs { (calls : List Call) (s t : State) (e : Entry) (a : Admitted)
+        → (status : Status) (why : Cause)
+        → IsOpening s → AreSound t.sources → Runs calls s t → Contains t.log e
+        → admitted_at t.admitted e.job.0 e.rev ≡ Some a → e.what ≡ Ended status (Some why)
+        → IsCauseShown t a why }
+{}
+
+/// A law: a lane has given one hook of each revision that began, and one of each that ended, with
+/// that status, in the order of its journal, and no other.
+pub fn hooks_go_with_the_journal()
+    ensures opens { (s : State) → IsOpening s → HooksTell s }
+    ensures admits { (s t : State) (a : Admitted) (answer : Admit)
+        → Admits s t a answer → HooksTell s → HooksTell t }
+    ensures steps { (s t : State) (job : JobNo) (answer : Stepped)
+        → Step s t job answer → HooksTell s → HooksTell t }
+    ensures runs { (calls : List Call) (s t : State)
+        → IsOpening s → Runs calls s t → HooksTell t }
 {}
