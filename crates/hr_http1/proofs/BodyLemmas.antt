@@ -1,5 +1,5 @@
 -- Lemmas on bodies in their framings, from what holds of the stages of a body.
-use Rattle.std.proofs.Common.{◌≡◌, ◌≢◌, ◌↔◌, ℕ, zero, suc, ◌+◌, ◌<◌, inl, inr, [], ◌∷◌, ◌++◌, length, take, refl, sym, ap, subst, ◌∙◌, arith, add-one, append-nil, length-append, Option, Some, None, IfSome}
+use Rattle.std.proofs.Common.{◌≡◌, ◌≢◌, ◌↔◌, ℕ, zero, suc, ◌+◌, ◌<◌, inr, [], ◌∷◌, ◌++◌, length, take, refl, sym, ap, subst, ◌∙◌, arith, add-one, append-nil, length-append, Option, Some, None, IfSome}
 use Rattle.std.proofs.Math.Seq.{take-append_seam}
 use Rattle.hr_base.specs.Bytes.{ByteList}
 use Rattle.hr_body.specs.declared.body.Body.{Body}
@@ -9,12 +9,12 @@ use Rattle.hr_body.specs.declared.stage.Stage.{Stage}
 use Rattle.hr_body.specs.declared.stage.Stage.TheVariants as At
 use Rattle.hr_body.specs.Chunked.{IsChunked}
 use Rattle.hr_body.specs.Leading.{Leads, HoldsBody, Strays, IsShort, IsUnended, BeginsNoBody as StageBeginsNone}
-use Rattle.hr_body.specs.Reading.{BrokeOff, IsFresh, WhereTold, in_word}
+use Rattle.hr_body.specs.Reading.{BrokeOff, IsFresh, in_word}
 use Rattle.hr_body.specs.Stage.{chunked_start}
 use Rattle.hr_cause.specs.Stream.{Gave}
 use Rattle.hr_frame.specs.declared.framing.Framing.{Framing}
 use Rattle.hr_frame.specs.declared.framing.Framing.TheVariants.{NoBody, Sized, Chunked, ToEnd}
-use Rattle.hr_http1.specs.Body.{ReadsBody, BeginsNoBody, start_of, GivesMore, IsAnnounced, BodyFault, BodyFacts}
+use Rattle.hr_http1.specs.Body.{ReadsBody, BeginsNoBody, start_of, GivesMore, BodyFault, BodyFacts}
 
 -- a piece is at the front of the one body that the bytes hold
 abbrev pub PieceFact : Type 0
@@ -81,14 +81,6 @@ module _ (m : StageFacts) where
     past = past_limit;
   }
 
--- a body that was read by its stages is one in its framing
-pub held_body : (facts : BodyFacts) (form : Framing) (a b : Option ByteList) (stage : Stage) (all : ByteList) → stage ≡ start_of form
-    → WhereTold a b (λ bytes rest. HoldsBody stage bytes all rest) → WhereTold a b (λ bytes rest. ReadsBody form bytes all rest)
-held_body facts form None None stage all is h = tt
-held_body facts form None (Some b) stage all is h = h
-held_body facts form (Some a) None stage all is h = h
-held_body facts form (Some a) (Some b) stage all is h = (facts.held form a all b).0 (subst (λ s. HoldsBody s a all b) is h)
-
 fresh_broke : (a b : Option ByteList) (body : Body) (stage : Stage) (at limit : ℕ) (why : WireFault) → IsFresh body stage at limit
     → BrokeOff a body.stage body.at body.room body.limit why b → BrokeOff a stage at limit limit why b
 fresh_broke a b body stage at limit why f broke = rw (f.stage_is, f.at_is, f.room, f.limit_is) at broke
@@ -124,9 +116,3 @@ body_fault facts form (Some a) (Some b) body at limit (Ended place) fresh broke 
     told_explained facts form at limit a b (Ended place) (λ e. cc) (fresh_broke (Some a) (Some b) body (start_of form) at limit (Ended place) fresh (broke (λ e. cc)))
 body_fault facts form (Some a) (Some b) body at limit (TooLong len) fresh broke =
     told_explained facts form at limit a b (TooLong len) (λ e. cc) (fresh_broke (Some a) (Some b) body (start_of form) at limit (TooLong len) fresh (broke (λ e. cc)))
-
--- a length that is announced and passes the limit is why none is read
-pub announced_fault : (form : Framing) (a : Option ByteList) (at limit : ℕ) (why : WireFault) → ((len : ℕ) × (why ≡ TooLong len) × IsAnnounced form limit len)
-    → IfSome a (λ bytes. BodyFault form at limit bytes why)
-announced_fault form None at limit why given = tt
-announced_fault form (Some a) at limit why (len, is, long) = subst (BodyFault form at limit a) (sym is) (inl long)

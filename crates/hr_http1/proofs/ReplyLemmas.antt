@@ -6,19 +6,17 @@ use Rattle.std.proofs.lemmas.Grind.{flat_map-append}
 use Rattle.httparse.specs.Grammar.{ResponseHead, print_response, status_code}
 use Rattle.httparse.proofs.GrammarLemmas.{response_unique}
 use Rattle.hr_base.specs.Bytes.{ByteList}
-use Rattle.hr_body.specs.declared.body.Body.{Body}
 use Rattle.hr_body.specs.declared.fault.WireFault.{WireFault}
 use Rattle.hr_body.specs.declared.fault.WireFault.TheVariants.{Failed, Malformed, Ended, TooLong, Memory}
-use Rattle.hr_body.specs.Reading.{WhereTold, in_word, IsFresh}
+use Rattle.hr_body.specs.Reading.{WhereTold, in_word}
 use Rattle.hr_frame.specs.declared.framing.Framing.{Framing}
 use Rattle.hr_frame.specs.Framing.{reply_framing}
 use Rattle.hr_head.specs.declared.reply.ReplyHead.{ReplyHead}
 use Rattle.hr_head.specs.Reply.{IsReplyHead, ReadsReply, ReplyFault}
-use Rattle.hr_http1.specs.declared.message.Reply.{Reply}
 use Rattle.hr_http1.specs.declared.passing.TheConstants.{INTERIM_LIMIT}
-use Rattle.hr_http1.specs.Body.{ReadsBody, start_of, BodyFault, BodyFacts}
+use Rattle.hr_http1.specs.Body.{BodyFault, BodyFacts}
 use Rattle.hr_http1.specs.Message.{line_of, Holds, BeginsNone}
-use Rattle.hr_http1.specs.Reply.{is_interim, IsWithin, IsInterim, ReplyHeads, print_passed, print_heads, reply_form, PassesOver, reply_kind, ReplyLost, SpellsReply, HasPassed, HasHeads, HasFramed, OpensReply, fault_behind, IsLostBehind}
+use Rattle.hr_http1.specs.Reply.{is_interim, IsWithin, IsInterim, ReplyHeads, print_passed, print_heads, reply_form, PassesOver, reply_kind, ReplyLost, HasPassed, HasHeads, HasFramed, fault_behind, IsLostBehind}
 use Rattle.hr_http1.proofs.MessageLemmas.{HeadsAreOne, PassesNone, lines_are, unframed, body_lost}
 
 true_false : true ≡ false → ⊥
@@ -36,14 +34,14 @@ passed_cons : (x : ResponseHead) (xs : List ResponseHead) (rest : ByteList) → 
 passed_cons x xs rest = append_assoc (print_response x) (print_passed xs) rest
 
 -- the heads behind those that were passed over
-pub record Behind (p q : List ResponseHead) (h : ResponseHead) (start rest : ByteList) : Type 0 where
+record Behind (p q : List ResponseHead) (h : ResponseHead) (start rest : ByteList) : Type 0 where
   pub more : List ResponseHead
   pub are : q ≡ p ++ more
   pub interim : AllByRecursion IsInterim more
   pub cut : start ≡ print_passed more ++ (print_response h ++ rest)
 
 -- the heads that were passed over are the first of a message
-pub behind : (p q : List ResponseHead) (h : ResponseHead) (start rest : ByteList) → AllByRecursion IsInterim p → AllByRecursion IsInterim q → IsWithin h → is_interim (status_code h) ≡ false
+behind : (p q : List ResponseHead) (h : ResponseHead) (start rest : ByteList) → AllByRecursion IsInterim p → AllByRecursion IsInterim q → IsWithin h → is_interim (status_code h) ≡ false
     → print_passed p ++ start ≡ print_passed q ++ (print_response h ++ rest) → Behind p q h start rest
 behind [] q h start rest ps qs within last e = record { more = q; are = refl; interim = qs; cut = e }
 behind (x ∷ p) [] h start rest ps qs within last e =
@@ -56,13 +54,13 @@ behind (x ∷ p) (y ∷ q) h start rest ps qs within last e =
     record { more = later.more; are = (λ i. sym same.0 i ∷ later.are i); interim = later.interim; cut = later.cut }
 
 -- the first head of some bytes
-pub record Starts (bytes : ByteList) : Type 0 where
+record Starts (bytes : ByteList) : Type 0 where
   pub head : ResponseHead
   pub rest : ByteList
   pub within : IsWithin head
   pub cut : bytes ≡ print_response head ++ rest
 
-pub starts : (more : List ResponseHead) (h : ResponseHead) (start rest : ByteList) → AllByRecursion IsInterim more → IsWithin h → start ≡ print_passed more ++ (print_response h ++ rest) → Starts start
+starts : (more : List ResponseHead) (h : ResponseHead) (start rest : ByteList) → AllByRecursion IsInterim more → IsWithin h → start ≡ print_passed more ++ (print_response h ++ rest) → Starts start
 starts [] h start rest interim within e = record { head = h; rest = rest; within = within; cut = e }
 starts (x ∷ more) h start rest interim within e =
     record { head = x; rest = print_passed more ++ (print_response h ++ rest); within = interim.0.within; cut = e ∙ passed_cons x more (print_response h ++ rest) }
@@ -71,13 +69,13 @@ heads_cut : (heads : ReplyHeads) (rest : ByteList) → print_heads heads ++ rest
 heads_cut heads rest = append_assoc (print_passed heads.passed) (print_response heads.head) rest
 
 -- the heads of a message behind those that were passed over
-pub held_behind : (head_only : Bool) (passed : List ResponseHead) (start body rest : ByteList) (heads : ReplyHeads) → AllByRecursion IsInterim passed
+held_behind : (head_only : Bool) (passed : List ResponseHead) (start body rest : ByteList) (heads : ReplyHeads) → AllByRecursion IsInterim passed
     → (h : Holds (reply_kind head_only) (print_passed passed ++ start) heads body rest) → Behind passed heads.passed heads.head start h.after
 held_behind head_only passed start body rest heads all holds =
     let ok = holds.frames.ok in
     behind passed heads.passed heads.head start holds.after all ok.interim ok.within ok.last (holds.frames.cut ∙ heads_cut heads holds.after)
 
-pub held_start : (head_only : Bool) (passed : List ResponseHead) (start body rest : ByteList) (heads : ReplyHeads) → AllByRecursion IsInterim passed
+held_start : (head_only : Bool) (passed : List ResponseHead) (start body rest : ByteList) (heads : ReplyHeads) → AllByRecursion IsInterim passed
     → Holds (reply_kind head_only) (print_passed passed ++ start) heads body rest → Starts start
 held_start head_only passed start body rest heads all holds =
     let b = held_behind head_only passed start body rest heads all holds in
@@ -165,11 +163,6 @@ heads_lost head_only limit count at (Some old) None why few p lost = absurd p
 heads_lost head_only limit count at (Some old) (Some mid) why few p lost =
     subst (ReplyLost head_only limit old) (sym lost.is) (head_lost head_only limit count at old mid lost.first few p lost.lost)
 
--- before the first head nothing was passed over
-pub none_passed : (old : Option ByteList) → WhereTold old old (HasPassed 0 0)
-none_passed None = tt
-none_passed (Some old) = record { passed = []; many = refl; interim = tt; cut = refl; len = refl }
-
 within : (h : ResponseHead) (bytes rest : ByteList) → ReadsReply bytes h rest → IsWithin h
 within h bytes rest r = record { valid = r.reads.0; few = r.few; short = r.short }
 
@@ -236,21 +229,6 @@ form_is : (head_only : Bool) (head : ReplyHead) (heads : ReplyHeads) → head.st
     → reply_framing head_only head.status head.heads ≡ reply_form head_only heads
 form_is head_only head heads status lines = λ i. reply_framing head_only (status i) (lines i)
 
--- the last head says its framing
-pub framed : (head_only : Bool) (at : ℕ) (old new : Option ByteList) (head : ReplyHead) (form : Framing) → WhereTold old new (λ bytes rest. HasHeads bytes head at rest)
-    → reply_framing head_only head.status head.heads ≡ Some form → WhereTold old new (λ bytes rest. HasFramed head_only bytes head form at rest)
-framed head_only at None None head form h is = tt
-framed head_only at None (Some new) head form h is = h
-framed head_only at (Some old) None head form h is = h
-framed head_only at (Some old) (Some new) head form h is =
-    record {
-      heads = h.heads;
-      frames = record { ok = h.ok; cut = h.cut; framed = sym (form_is head_only head h.heads h.status h.lines) ∙ is };
-      len = h.len;
-      status = h.status;
-      lines = h.lines;
-    }
-
 -- a last head that says no framing begins no message
 pub unframed_lost : (head_only : Bool) (limit at : ℕ) (old new : Option ByteList) (head : ReplyHead) → at ≡ in_word at → WhereTold old new (λ bytes rest. HasHeads bytes head at rest)
     → reply_framing head_only head.status head.heads ≡ None → IfSome old (λ bytes. ReplyLost head_only limit bytes (Malformed at))
@@ -260,18 +238,6 @@ unframed_lost head_only limit at (Some old) (Some new) head small h none =
     let never = unframed (reply_kind head_only) (replies_are_one head_only) old new h.heads h.ok h.cut (sym (form_is head_only head h.heads h.status h.lines) ∙ none) in
     (at, small, subst (λ n. BeginsNone (reply_kind head_only) (take n old)) (sym h.len) never)
 
--- a body behind the heads makes a reply
-pub reply_read : (head_only : Bool) (at : ℕ) (old mid new : Option ByteList) (head : ReplyHead) (form : Framing) (reply : Reply)
-    → WhereTold old mid (λ bytes rest. HasFramed head_only bytes head form at rest) → WhereTold mid new (λ bytes rest. ReadsBody form bytes reply.body rest)
-    → reply.status ≡ head.status → reply.heads ≡ head.heads → WhereTold old new (λ bytes rest. SpellsReply head_only bytes reply rest)
-reply_read head_only at None None None head form reply f body status heads = tt
-reply_read head_only at None None (Some new) head form reply f body status heads = body
-reply_read head_only at None (Some mid) new head form reply f body status heads = absurd f
-reply_read head_only at (Some old) None new head form reply f body status heads = absurd f
-reply_read head_only at (Some old) (Some mid) None head form reply f body status heads = body
-reply_read head_only at (Some old) (Some mid) (Some new) head form reply f body status heads =
-    record { heads = f.heads; holds = record { form = form; after = mid; frames = f.frames; reads = body }; status = status ∙ f.status; lines = heads ∙ f.lines }
-
 -- why no body is read behind the heads
 pub reply_body_lost : (facts : BodyFacts) (head_only : Bool) (at limit : ℕ) (old mid : Option ByteList) (head : ReplyHead) (form : Framing) (why : WireFault)
     → WhereTold old mid (λ bytes rest. HasFramed head_only bytes head form at rest) → IfSome mid (λ bytes. BodyFault form at limit bytes why)
@@ -280,13 +246,3 @@ reply_body_lost facts head_only at limit None mid head form why f fault = tt
 reply_body_lost facts head_only at limit (Some old) None head form why f fault = absurd f
 reply_body_lost facts head_only at limit (Some old) (Some mid) head form why f fault =
     body_lost (reply_kind head_only) (replies_are_one head_only) facts old mid f.heads form at limit why f.frames f.len fault
-
--- the reply and the body that were opened
-pub reply_opened : (head_only : Bool) (at limit : ℕ) (old mid : Option ByteList) (head : ReplyHead) (form : Framing) (reply : Reply) (body : Body)
-    → WhereTold old mid (λ bytes rest. HasFramed head_only bytes head form at rest) → IsFresh body (start_of form) at limit
-    → reply.status ≡ head.status → reply.heads ≡ head.heads → length reply.body ≡ 0 → WhereTold old mid (λ bytes rest. OpensReply head_only limit bytes reply body rest)
-reply_opened head_only at limit None None head form reply body f fresh status heads empty = tt
-reply_opened head_only at limit None (Some mid) head form reply body f fresh status heads empty = f
-reply_opened head_only at limit (Some old) None head form reply body f fresh status heads empty = f
-reply_opened head_only at limit (Some old) (Some mid) head form reply body f fresh status heads empty =
-    record { heads = f.heads; form = form; frames = f.frames; status = status ∙ f.status; lines = heads ∙ f.lines; empty = empty; fresh = subst (λ n. IsFresh body (start_of form) n limit) f.len fresh }
