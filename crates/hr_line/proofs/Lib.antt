@@ -17,6 +17,8 @@ mod OrderlyLemmas
 mod OriginLemmas
 mod PutLemmas
 mod RunLemmas
+mod ShowLemmas
+mod ShowLineLemmas
 mod ShownLemmas
 mod SourceLemmas
 mod StandsLemmas

@@ -24,8 +24,9 @@ use Rattle.hr_line.specs.Line.{entry_of}
 use Rattle.hr_line.specs.Orderly.{IsHeldAs, IsOrderly, admitted_at, placement}
 use Rattle.hr_line.specs.Run.{AreApart, Call, Happens, IsDestination, IsOpening, OthersStay, Runs, entries_of}
 use Rattle.hr_line.specs.Sources.{AreSourced, origin}
+use Rattle.hr_line.specs.Shows.{AreShowsRead, RootRead, SaysShow, ShowsHold}
 use Rattle.hr_line.specs.State.{AreSound, Link, State, held_at, link_at}
-use Rattle.hr_line.specs.Step.{Step}
+use Rattle.hr_line.specs.Step.{Step, next_tag}
 use Rattle.hr_line.specs.declared.answer.Stepped.{Stepped}
 use Rattle.hr_line.specs.declared.held.Admitted.{Admitted}
 use Rattle.hr_line.specs.declared.held.Held.{Held}
@@ -36,6 +37,7 @@ use Rattle.hr_line.proofs.HookLemmas.{admits_hooks, step_hooks}
 use Rattle.hr_line.proofs.KeptLemmas.{admits_keeps, step_keeps}
 use Rattle.hr_line.proofs.LinkLemmas.{equal_false, equal_true, held_other, if_false, if_true, number_cases, registry_same}
 use Rattle.hr_line.proofs.OrderlyLemmas.{Turned, admits_orderly, is_held, step_orderly, turned}
+use Rattle.hr_line.proofs.ShowLemmas.{admits_read, step_read}
 use Rattle.hr_line.proofs.OriginLemmas.{admits_sourced, step_sourced}
 
 -- ---- the opening
@@ -52,6 +54,14 @@ opening_causes s opening = record {
       (sym opening.log) tt;
   held = λ job.
       subst (λ (hs : List Held). IfSome (held_at hs job) (λ h. IfSome h.work (WorkSeen h.by s.log))) (sym opening.held) tt;
+}
+
+pub opening_read : (s : State) → IsOpening s → AreShowsRead s
+opening_read s opening = record {
+  logged = subst (λ (es : List Entry). ShowsHold s.admitted es) (sym opening.log) tt;
+  held = λ job.
+      subst (λ (hs : List Held). IfSome (held_at hs job)
+      (λ h. IfSome h.work (λ w. IfSome (next_tag h) (λ tag. RootRead h.by s.log tag w.walk.root)))) (sym opening.held) tt;
 }
 
 pub opening_sourced : (s : State) → IsOpening s → AreSourced s
@@ -109,6 +119,7 @@ pub record HasRun (s t : State) : Type 0 where
   pub kept : AreKept s.dests t
   pub sourced : AreSourced t
   pub causes : AreCausesShown t
+  pub reads : AreShowsRead t
 
 happens_on : (call : Call) (s mid t : State) → HasRun s mid → AreSound mid.sources → AreSound mid.dests → AreSound t.sources
     → Happens call mid t → HasRun s t
@@ -117,12 +128,14 @@ happens_on (Call.admit a answer) s mid t ran sources dests after happens = recor
   kept = admits_keeps s.dests mid t a answer ran.orderly happens.0 happens.1 ran.kept;
   sourced = admits_sourced mid t a answer ran.orderly happens.0 happens.1 ran.sourced;
   causes = admits_causes mid t a answer ran.orderly happens.0 ran.causes happens.1;
+  reads = admits_read mid t a answer ran.orderly happens.0 ran.reads happens.1;
 }
 happens_on (Call.step job answer) s mid t ran sources dests after happens = record {
   orderly = step_orderly mid t job answer ran.orderly happens;
   kept = step_keeps s.dests mid t job answer ran.orderly dests happens ran.kept;
   sourced = step_sourced mid t job answer ran.orderly sources after happens ran.sourced;
   causes = step_causes mid t job answer ran.orderly sources dests after ran.causes happens;
+  reads = step_read mid t job answer ran.orderly ran.causes ran.reads happens;
 }
 
 pub runs_keep : (calls : List Call) (s t : State) → IsOpening s → AreSound t.sources → Runs calls s t → HasRun s t
@@ -132,6 +145,7 @@ runs_keep [] s t opening sound runs =
       kept = opening_keeps s opening;
       sourced = opening_sourced s opening;
       causes = opening_causes s opening;
+      reads = opening_read s opening;
     })
 runs_keep (call ∷ before) s t opening sound (mid, ran, sources, dests, happens) =
     happens_on call s mid t (runs_keep before s mid opening sources ran) sources dests sound happens
@@ -204,6 +218,19 @@ cause_shown t e a status why shown within admitted says =
     subst (λ (w : What). SaysCause t a w) says
     (subst (λ (x : Option Admitted). IfSome x (λ b. SaysCause t b e.what)) admitted
     (each_has (λ (x : Entry). IfSome (admitted_at t.admitted x.job.0 x.rev) (λ b. SaysCause t b x.what)) t.log shown.logged e within))
+
+shows_at : (all : List Admitted) (newer older : List Entry) (e : Entry) → ShowsHold all (newer ++ e ∷ older)
+    → IfSome (admitted_at all e.job.0 e.rev) (λ a. SaysShow a older e.what)
+shows_at all [] older e holds = holds.0
+shows_at all (f ∷ newer) older e holds = shows_at all newer older e holds.1
+
+-- a tag that was finished was read before
+pub show_read : (t : State) (newer older : List Entry) (e : Entry) (a : Admitted) (said : What) → AreShowsRead t
+    → t.log ≡ newer ++ e ∷ older → admitted_at t.admitted e.job.0 e.rev ≡ Some a → e.what ≡ said → SaysShow a older said
+show_read t newer older e a said reads parts admitted says =
+    subst (λ (w : What). SaysShow a older w) says
+    (subst (λ (x : Option Admitted). IfSome x (λ b. SaysShow b older e.what)) admitted
+    (shows_at t.admitted newer older e (subst (λ (es : List Entry). ShowsHold t.admitted es) parts reads.logged)))
 
 -- ---- a destination
 

@@ -9,6 +9,7 @@ pub mod Kept
 pub mod Line
 pub mod Orderly
 pub mod Run
+pub mod Shows
 pub mod Sources
 pub mod State
 pub mod Step

@@ -27,6 +27,7 @@ ghost use Rattle.hr_line.specs.Kept.{EndSeen, WorkSeen};
 ghost use Rattle.hr_line.specs.Line.{LineEnd};
 ghost use Rattle.hr_line.specs.Orderly.{IsNew, IsOrderly, admitted_at, placement};
 ghost use Rattle.hr_line.specs.Run.{AreComplete, Call, IsDestination, IsOpening, OthersStay, Runs};
+ghost use Rattle.hr_line.specs.Shows.{AreShowsRead, Decides, RootRead};
 ghost use Rattle.hr_line.specs.Sources.{AreSourced, origin};
 ghost use Rattle.hr_line.specs.State.{AreSound, Link, State};
 ghost use Rattle.hr_line.specs.Step.{Line, Step};
@@ -181,4 +182,21 @@ pub fn hooks_go_with_the_journal()
         → Step s t job answer → HooksTell s → HooksTell t }
     ensures runs { (calls : List Call) (s t : State)
         → IsOpening s → Runs calls s t → HooksTell t }
+{}
+
+/// A law: each tag that a revision finished is one of its task, and came out as the look just before
+/// decides, for a manifest that an earlier entry of that revision read under it, readable and of that
+/// digest.
+pub fn tags_are_finished_as_they_were_read()
+    ensures opens { (s : State) → IsOpening s → AreShowsRead s }
+    ensures admits { (s t : State) (a : Admitted) (answer : Admit)
+        → IsOrderly s → IsNew s.admitted a → AreShowsRead s → Admits s t a answer
+        → AreShowsRead t }
+    ensures steps { (s t : State) (job : JobNo) (answer : Stepped)
+        → IsOrderly s → AreCausesShown s → AreShowsRead s → Step s t job answer → AreShowsRead t }
+    ensures runs { (calls : List Call) (s t : State) (newer older : List Entry) (e : Entry)
+        → (a : Admitted) (tag : TagName) (d : Digest) (old : Option Digest) (how : How)
+        → IsOpening s → AreSound t.sources → Runs calls s t → t.log ≡ newer ++ e ∷ older
+        → admitted_at t.admitted e.job.0 e.rev ≡ Some a → e.what ≡ Show tag d old how
+        → Contains a.spec.tags tag × RootRead a older tag d × Decides a.spec.override_it d old how }
 {}
