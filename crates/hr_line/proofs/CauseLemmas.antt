@@ -30,7 +30,7 @@ use Rattle.hr_line.specs.declared.held.Held.{Held}
 use Rattle.hr_line.specs.declared.held.Work.{Work}
 use Rattle.hr_line.proofs.EvidenceLemmas.{work_later}
 use Rattle.hr_line.proofs.FinalLemmas.{comes_says, line_says}
-use Rattle.hr_line.proofs.LaterLemmas.{line_dest, line_source}
+use Rattle.hr_line.proofs.LaterLemmas.{dest_itself, line_dest, line_source}
 use Rattle.hr_line.proofs.LinkLemmas.{held_other, held_same, link_other, link_same, number_cases, registry_same}
 use Rattle.hr_line.proofs.ListLemmas.{get_contains}
 use Rattle.hr_line.proofs.OrderlyLemmas.{end_admitted, is_held, older_admitted}
@@ -44,9 +44,6 @@ use Rattle.hr_line.proofs.WroteLemmas.{EndsNone, Unended, unended_one, unended_t
 
 source_itself : (f : Reg) → IsLaterSource f f
 source_itself f = record { read = read_same f f refl; faults = omega arith }
-
-dest_itself : (p : Reg) → IsLaterDest p p
-dest_itself p = record { tells = refl; faults = omega arith }
 
 -- what a connection was before one of them did something
 link_back : (R : Reg → Reg → Type 0) → ((x : Reg) → R x x) → (links : List Link) (r : RegNo) (f g : Reg) → link_at links r ≡ Some f
@@ -75,7 +72,7 @@ same_links s t sources dests a source dest from to = (
   ap (λ (ls : List Link). link_at ls a.spec.src) (sym sources) ∙ from,
   ap (λ (ls : List Link). link_at ls a.spec.dst) (sym dests) ∙ to,
   source_itself source,
-  dest_itself dest,
+  dest_itself dest dest refl,
 )
 
 line_later : (h : Held) (s t : State) (end : LineEnd) → AreSound s.sources → AreSound s.dests → DoesLine h s t end → AreLater s t
@@ -84,7 +81,7 @@ line_later h s t end sources dests line a source dest from to =
     (line_source h.by line.tag line.f line.g line.p line.q s.log t.log end h.work
     (sound_at s.sources h.by.spec.src line.f sources line.moves.source) line.line)
     a.spec.src source (ap (λ (ls : List Link). link_at ls a.spec.src) (sym line.moves.sources) ∙ from) in
-    let p = link_back IsLaterDest dest_itself s.dests h.by.spec.dst line.p line.q line.moves.dest
+    let p = link_back IsLaterDest (λ x. dest_itself x x refl) s.dests h.by.spec.dst line.p line.q line.moves.dest
     (line_dest h.by line.tag line.f line.g line.p line.q s.log t.log end
     (sound_at s.dests h.by.spec.dst line.p dests line.moves.dest) h.work line.line)
     a.spec.dst dest (ap (λ (ls : List Link). link_at ls a.spec.dst) (sym line.moves.dests) ∙ to) in

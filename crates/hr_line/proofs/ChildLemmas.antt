@@ -2,14 +2,12 @@
 use Rattle.std.proofs.Common.{◌≡◌, ◌≢◌, ◌⊎◌, inl, inr, refl, sym, ap, subst, ◌∙◌, suc, ℕ, ◌≤◌, ◌<◌, Bool, true, false, List, [], ◌∷◌, length, arith}
 use Rattle.std.specs.Prelude.{Option, Some, None, IfSome, Result, Ok, Err, option_map, ⊤}
 use Rattle.std.specs.List.{AllByRecursion}
-use Rattle.std.specs.Cmp.Lexicographic.{bytes_decides}
 use Rattle.hr_base.specs.Bytes.{ByteList}
 use Rattle.hr_base.specs.declared.limit.TheConstants.{MANIFEST_LIMIT}
 use Rattle.hr_cause.specs.Stream.{Rose}
 use Rattle.hr_digest.specs.Digest.{digest_of}
 use Rattle.hr_digest.specs.Order.{digest_eq}
 use Rattle.hr_digest.specs.declared.digest.Digest.{Digest}
-use Rattle.hr_digest.specs.declared.digest.Digest.TheVariants.{Sha256}
 use Rattle.hr_name.specs.Tag.{TagName}
 use Rattle.hr_event.specs.declared.cause.Cause.TheVariants as cause
 use Rattle.hr_event.specs.declared.entry.Entry.{Entry}
@@ -45,6 +43,7 @@ use Rattle.hr_line.specs.Kept.{EndSeen, WorkSeen}
 use Rattle.hr_line.specs.Line.{BlobAsked, BlobLine, ChildCompared, ChildFetched, ChildGoes, ChildLine, ChildStored, CopyEnds, CopyLine, IsReading, LineEnd, LookEnds, LookFound, LookLine, PutLine, RootDecided, RootLine, RootLooked, RootStored, decide, entry_of}
 use Rattle.hr_line.specs.declared.held.Admitted.{Admitted}
 use Rattle.hr_line.specs.declared.held.Work.{Work}
+use Rattle.hr_line.proofs.CalmLemmas.{digest_apart, digest_same}
 use Rattle.hr_line.proofs.EvidenceLemmas.{goes_seen, says_later, says_now, work_later}
 use Rattle.hr_line.proofs.LineLemmas.{ends_seen, form_shown}
 use Rattle.hr_line.proofs.ListLemmas.{get_contains}
@@ -175,15 +174,6 @@ child_fault a w d log f g q (why.TooLong len) seen is asks =
     by_told (Some c) None long = tt
     by_told (Some c) (Some b) long = IsLengthOf.child kind.Manifest d (child_reached a log w d seen is) long
 child_fault a w d log f g q why.Memory seen is asks = tt
-
-digest_apart : (d e : Digest) → digest_eq d e ≡ false → d ≢ e
-digest_apart (Sha256 x) (Sha256 y) is same = let t = (bytes_decides x y).1 (by_hash x y same) in cc
-  where
-    by_hash : (x y : ByteList) → Sha256 x ≡ Sha256 y → x ≡ y
-    by_hash x y e = cc
-
-digest_same : (d e : Digest) → digest_eq d e ≡ true → d ≡ e
-digest_same (Sha256 x) (Sha256 y) is = ap Sha256 ((bytes_decides x y).0 is)
 
 -- what came for a child is what a source that tells has under its digest
 came_told : (a : Admitted) (d : Digest) (g : Reg) (m : Fetched) (told : Option Content)

@@ -44,11 +44,11 @@ take_next P (y ∷ z ∷ ys) zero x is all holds = let same : y ≡ x = cc in (s
 take_next P (y ∷ ys) (suc n) x is all holds = (all.0, take_next P ys n x is all.1 holds)
 
 -- all elements, where none is next
-take_all : {X : Type 0} (P : X → Type 0) (xs : List X) (n : ℕ) → slice_get xs n ≡ None → AllByRecursion P (take n xs)
+all_taken : {X : Type 0} (P : X → Type 0) (xs : List X) (n : ℕ) → slice_get xs n ≡ None → AllByRecursion P (take n xs)
     → AllByRecursion P xs
-take_all P [] n is all = tt
-take_all P (y ∷ ys) zero is all = cc
-take_all P (y ∷ ys) (suc n) is all = (all.0, take_all P ys n is all.1)
+all_taken P [] n is all = tt
+all_taken P (y ∷ ys) zero is all = cc
+all_taken P (y ∷ ys) (suc n) is all = (all.0, all_taken P ys n is all.1)
 
 -- ---- what was finished stays so
 
@@ -223,7 +223,7 @@ end_holds : (s mid : State) (h : Held) (why : Option Cause) (status : Status) �
     → AllByRecursion (IsFinished h.by s.log) (take h.next h.by.spec.tags) → EndHolds h.by mid.log status why
 end_holds s mid h None status is comes done = (
   is,
-  take_all (IsFinished h.by mid.log) h.by.spec.tags h.next comes.0
+  all_taken (IsFinished h.by mid.log) h.by.spec.tags h.next comes.0
       (all_later h.by h.by s.log mid.log (comes_says h s mid None comes) (take h.next h.by.spec.tags) done),
 )
 end_holds s mid h (Some why) status is comes done = is

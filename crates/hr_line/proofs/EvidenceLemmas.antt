@@ -16,7 +16,7 @@ use Rattle.hr_graph.specs.declared.need.WalkRefused.TheVariants as walk
 use Rattle.hr_graph.proofs.ReachedLaws.{begins_or_shows, goes_or_shows, read_more}
 use Rattle.hr_graph.proofs.WalkLaws.{begun_sound, step_falls}
 use Rattle.hr_adapter.specs.Reg.{Reg}
-use Rattle.hr_line.proofs.ListLemmas.{contains_first, contains_later}
+use Rattle.hr_journal.proofs.ListLaws.{contains_first, contains_later}
 use Rattle.hr_line.specs.Cause.{walk_cause}
 use Rattle.hr_line.specs.Evidence.{IsRootOf, IsShown, MeasuredFor, ReadFor, ReadSome, Says}
 use Rattle.hr_line.specs.Kept.{EndSeen, WorkSeen}

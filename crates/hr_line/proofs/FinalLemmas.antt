@@ -24,9 +24,8 @@ use Rattle.hr_line.specs.declared.answer.Stepped.{Stepped}
 use Rattle.hr_line.specs.declared.answer.Stepped.TheVariants as stepped
 use Rattle.hr_line.specs.declared.held.Admitted.{Admitted}
 use Rattle.hr_line.specs.declared.held.Held.{Held}
-use Rattle.hr_line.specs.declared.held.Work.{Work}
 use Rattle.hr_line.proofs.LinkLemmas.{held_other, held_same, number_cases}
-use Rattle.hr_line.proofs.OrderlyLemmas.{both_true, is_held}
+use Rattle.hr_line.proofs.OrderlyLemmas.{both_true, is_held, same_goes}
 use Rattle.hr_line.proofs.WroteLemmas.{EndsNone, Unended, line_unended, unended_none, unended_one, unended_then}
 
 -- ---- what the entries of a step say of ends
@@ -139,10 +138,6 @@ module _ (s t : State) (job : ℕ) (h : Held) (orderly : IsOrderly s) (here : he
         ∙ same_endings k.by.job.0 k.by.rev h.by s.log middle wrote) tt;
   }
 
-same_by : (h : Held) (work : Option Work) → (goes_on h work).by ≡ h.by
-same_by h None = refl
-same_by h (Some w) = refl
-
 ends_once : (s t : State) (job : JobNo) (closed : Result Status Mark) → IsOrderly s → EndOnce s → Ends s t job closed → EndOnce t
 ends_once s t job closed orderly once ends = at closed ends.closes
   where
@@ -160,7 +155,7 @@ ends_once s t job closed orderly once ends = at closed ends.closes
 pub step_once : (s t : State) (job : JobNo) (answer : Stepped) → IsOrderly s → EndOnce s → Step s t job answer → EndOnce t
 step_once s t job stepped.NotHere orderly once step = subst EndOnce (sym step.1) once
 step_once s t job stepped.Did orderly once step =
-    unended_once s t job.0 step.held orderly step.here once (Some (goes_on step.held step.work)) step.now (same_by step.held step.work)
+    unended_once s t job.0 step.held orderly step.here once (Some (goes_on step.held step.work)) step.now (same_goes step.held step.work)
     (line_says step.held s t (Ok step.work) step.line)
 step_once s t job (stepped.Lost mark) orderly once (inl drops) =
     unended_once s t job.0 drops.held orderly drops.here once None drops.gone tt

@@ -83,7 +83,7 @@ copy_tells to d bytes p q (Err why.Memory) sound holds =
 
 -- ---- destinations
 
-dest_itself : (p q : Reg) → q ≡ p → IsLaterDest p q
+pub dest_itself : (p q : Reg) → q ≡ p → IsLaterDest p q
 dest_itself p q same = subst (λ (x : Reg). IsLaterDest p x) (sym same) (record { tells = refl; faults = omega arith })
 
 dest_then : (p m q : Reg) → IsLaterDest p m → IsLaterDest m q → IsLaterDest p q

@@ -1,14 +1,9 @@
--- What lists contain.
-use Rattle.std.proofs.Common.{◌≡◌, zero, suc, ℕ, List, [], ◌∷◌, refl, arith}
+-- What stands in lists.
+use Rattle.std.proofs.Common.{◌≡◌, zero, suc, ℕ, List, [], ◌∷◌, arith}
 use Rattle.std.specs.Prelude.{Some}
 use Rattle.std.specs.List.{Contains, slice_get}
 
-pub contains_later : {X : Type 0} (y : X) (ys : List X) (x : X) → Contains ys x → Contains (y ∷ ys) x
-contains_later y ys x (k, within, is) = (suc k, omega arith, is)
-
-pub contains_first : {X : Type 0} (y : X) (ys : List X) → Contains (y ∷ ys) y
-contains_first y ys = (zero, omega arith, refl)
-
+-- what stands at a place of a list is contained in it
 pub get_contains : {X : Type 0} (xs : List X) (k : ℕ) (x : X) → slice_get xs k ≡ Some x → Contains xs x
 get_contains [] k x is = cc
 get_contains (y ∷ ys) zero x is = let e : y ≡ x = cc in (zero, omega arith, e)

@@ -90,7 +90,7 @@ pub record Turned (s t : State) (job : ℕ) : Type 0 where
 pub line_does : (h : Held) (s t : State) (end : LineEnd) → DoesLine h s t end → Wrote h.by s.log t.log
 line_does h s t end line = line_wrote h.by s.log t.log end line.tag h.work line.f line.g line.p line.q line.line
 
-same_goes : (h : Held) (work : Option Work) → (goes_on h work).by ≡ h.by
+pub same_goes : (h : Held) (work : Option Work) → (goes_on h work).by ≡ h.by
 same_goes h None = refl
 same_goes h (Some w) = refl
 

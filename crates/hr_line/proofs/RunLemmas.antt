@@ -244,16 +244,16 @@ kept_promise t reg o c now kept there tells =
     subst (λ (x : Content). Promise (placement reg t.admitted) o t.log x) content kept.kept.promise
 
 -- it keeps its promise
-pub destination_promise : (s t : State) (reg : RegNo) (o c : Content) → AreKept s.dests t → IsDestination s t reg o c
-    → Promise (placement reg t.admitted) o t.log c
-destination_promise s t reg o c kept dest =
+pub destination_promise : (opened : List Link) (t : State) (reg : RegNo) (o c : Content) → AreKept opened t
+    → IsDestination opened t reg o c → Promise (placement reg t.admitted) o t.log c
+destination_promise opened t reg o c kept dest =
     kept_promise t reg o c dest.now (subst (λ (r : RegNo). IsKept t r o) dest.named (had dest.honest)) dest.there dest.tells
   where
-    had : Honest o → IsKept t dest.opened.reg o
+    had : Honest o → IsKept t dest.first.reg o
     had =
-        subst (λ (x : Option Content). IfSome x (λ o. Honest o → IsKept t dest.opened.reg o)) dest.told
-        (each_has (λ (l : Link). IsTrue l.seen.quiet → IfSome l.seen.told (λ o. Honest o → IsKept t l.reg o)) s.dests kept
-        dest.opened dest.within dest.quiet)
+        subst (λ (x : Option Content). IfSome x (λ o. Honest o → IsKept t dest.first.reg o)) dest.told
+        (each_has (λ (l : Link). IsTrue l.seen.quiet → IfSome l.seen.told (λ o. Honest o → IsKept t l.reg o)) opened kept
+        dest.first dest.within dest.quiet)
 
 -- ---- other jobs
 

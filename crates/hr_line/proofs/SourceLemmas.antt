@@ -38,9 +38,9 @@ use Rattle.hr_line.specs.declared.held.Work.{Work}
 
 -- ---- a source later on
 
-take_all : {X : Type 0} (xs : List X) → take (length xs) xs ≡ xs
-take_all [] = refl
-take_all (x ∷ xs) = ap (λ (ys : List _). x ∷ ys) (take_all xs)
+take_whole : {X : Type 0} (xs : List X) → take (length xs) xs ≡ xs
+take_whole [] = refl
+take_whole (x ∷ xs) = ap (λ (ys : List _). x ∷ ys) (take_whole xs)
 
 -- a connection was only read: tags may have been moved
 pub record IsRead (f g : Reg) : Type 0 where
@@ -69,7 +69,7 @@ told_before from f g read = by f.told g.told read.told
         (option_map (λ c. record { content = c; ever = g.ever; repo = from }) after)
     by (Some c) (Some d) moved = record {
       moved = moved;
-      grew = ap (take (length f.ever)) read.ever ∙ take_all f.ever;
+      grew = ap (take (length f.ever)) read.ever ∙ take_whole f.ever;
       place = refl;
     }
     by None None moved = tt

@@ -61,14 +61,15 @@ pub record OthersStay (s t : State) (job : ℕ) : Type 0 where
   pub logged : (other : ℕ) → other ≢ job → entries_of other t.log ≡ entries_of other s.log
   pub admitted : t.admitted ≡ s.admitted
 
--- a destination that a lane was opened with, where everything stood under its own digest, and no
--- change was planned: its contents then and now
-pub record IsDestination (s t : State) (reg : RegNo) (o c : Content) : Type 0 where
-  pub opened : Link
-  pub within : Contains s.dests opened
-  pub named : opened.reg ≡ reg
-  pub quiet : IsTrue opened.seen.quiet
-  pub told : opened.seen.told ≡ Some o
+-- a destination as it was opened, where everything stood under its own digest, and no change was
+-- planned, and as a lane has it now: its contents then and now
+pub record IsDestination (opened : List Link) (t : State) (reg : RegNo) (o c : Content)
+    : Type 0 where
+  pub first : Link
+  pub within : Contains opened first
+  pub named : first.reg ≡ reg
+  pub quiet : IsTrue first.seen.quiet
+  pub told : first.seen.told ≡ Some o
   pub honest : Honest o
   pub now : Reg
   pub there : link_at t.dests reg ≡ Some now

@@ -71,6 +71,9 @@ pub fn destinations_keep_their_promise()
     ensures steps { (opened : List Link) (s t : State) (job : JobNo) (answer : Stepped)
         → IsOrderly s → AreSound s.dests → Step s t job answer
         → AreKept opened s → AreKept opened t }
+    ensures promise { (opened : List Link) (s : State) (reg : RegNo) (o c : Content)
+        → AreKept opened s → IsDestination opened s reg o c
+        → Promise (placement reg s.admitted) o s.log c }
 {}
 
 /// A law: what a lane read is what its sources have, where they tell, and stays so with each
@@ -90,7 +93,7 @@ pub fn runs_keep_the_promise()
     ensures orderly { (calls : List Call) (s t : State)
         → IsOpening s → AreSound t.sources → Runs calls s t → IsOrderly t }
     ensures kept { (calls : List Call) (s t : State) (reg : RegNo) (o c : Content)
-        → IsOpening s → AreSound t.sources → Runs calls s t → IsDestination s t reg o c
+        → IsOpening s → AreSound t.sources → Runs calls s t → IsDestination s.dests t reg o c
         → Promise (placement reg t.admitted) o t.log c }
     ensures sourced { (calls : List Call) (s t : State)
         → IsOpening s → AreSound t.sources → Runs calls s t → AreSourced t }
@@ -103,16 +106,16 @@ pub fn runs_keep_the_promise()
 /// under that tag at the source, which showed it there, where it tells.
 pub fn tags_of_runs_are_complete()
     ensures told { (calls : List Call) (s t : State) (reg : RegNo) (o c : Content)
-        → IsOpening s → AreSound t.sources → Runs calls s t → IsDestination s t reg o c
+        → IsOpening s → AreSound t.sources → Runs calls s t → IsDestination s.dests t reg o c
         → AllTell (placement reg t.admitted) (origin t.sources t.admitted) t.log
         → OneText o (origin t.sources t.admitted) → AreComplete (placement reg t.admitted) t.log c }
     ensures untold { (calls : List Call) (s t : State) (reg : RegNo) (o c : Content)
-        → IsOpening s → AreSound t.sources → Runs calls s t → IsDestination s t reg o c
+        → IsOpening s → AreSound t.sources → Runs calls s t → IsDestination s.dests t reg o c
         → OneEach (placement reg t.admitted) o t.log → AreComplete (placement reg t.admitted) t.log c }
     ensures read { (calls : List Call) (s t : State) (reg : RegNo) (o c : Content)
         → (newer older : List Entry) (e : Entry) (repo : RepoName) (tag : TagName) (d : Digest)
         → (old : Option Digest) (how : How)
-        → IsOpening s → AreSound t.sources → Runs calls s t → IsDestination s t reg o c
+        → IsOpening s → AreSound t.sources → Runs calls s t → IsDestination s.dests t reg o c
         → t.log ≡ newer ++ e ∷ older → placed (placement reg t.admitted) e ≡ Some repo
         → e.what ≡ Show tag d old how → WasRead older e tag d }
     ensures shown { (calls : List Call) (s t : State) (newer older : List Entry) (e : Entry)
