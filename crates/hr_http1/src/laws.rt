@@ -15,13 +15,14 @@ ghost use Rattle.hr_http1.specs.Sendable.{reply_as_read, request_as_read};
 ghost use Rattle.hr_http1.specs.Sendable.{IsSendableReply, IsSendableRequest};
 ghost use Rattle.hr_http1.specs.Written.{reply_text, request_text_of};
 
-use hr_body::{bodies_are_the_grammars, pieces_are_of_one_body};
+use hr_body::{bodies_are_the_grammars, bytes_have_one_outcome, pieces_are_of_one_body};
 
 /// A law: the bodies that are read by the stages of `hr_body` are those of their framings.
 pub fn bodies_are_read_by_their_framing()
     ensures { BodyFacts }
 {
     bodies_are_the_grammars();
+    bytes_have_one_outcome();
     pieces_are_of_one_body();
 }
 
