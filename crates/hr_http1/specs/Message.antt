@@ -16,8 +16,8 @@ abbrev pub line_of : Field → Head
 line_of field = record { name = field.name; value = field_value field }
 
 -- A kind of messages, by its heads: which are valid, the bytes of each, and the framing that each
--- says, if it says one. Of bytes, whether they end within a head, and whether they begin with a head
--- that passes its limit.
+-- says, if it says one. Of bytes, whether they end within a head, and whether they begin with a
+-- head that passes its limit.
 pub record Kind (H : Type 0) : Type 1 where
   pub valid : H → Type 0
   pub print : H → ByteList
