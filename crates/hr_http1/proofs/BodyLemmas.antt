@@ -1,5 +1,5 @@
 -- Lemmas on bodies in their framings, from what holds of the stages of a body.
-use Rattle.std.proofs.Common.{◌≡◌, ◌≢◌, ◌↔◌, ℕ, zero, suc, ◌+◌, ◌<◌, inr, [], ◌∷◌, ◌++◌, length, take, refl, sym, ap, subst, ◌∙◌, arith, add-one, append-nil, length-append, Option, Some, None, IfSome}
+use Rattle.std.proofs.Common.{◌≡◌, ◌≢◌, ◌↔◌, ℕ, zero, suc, ◌+◌, ◌<◌, inr, [], ◌∷◌, ◌++◌, length, take, refl, sym, ap, subst, ◌∙◌, arith, add-one, append-nil, append_assoc, length-append, Option, Some, None, IfSome}
 use Rattle.std.proofs.Math.Seq.{take-append_seam}
 use Rattle.hr_base.specs.Bytes.{ByteList}
 use Rattle.hr_body.specs.declared.body.Body.{Body}
@@ -29,6 +29,8 @@ pub record StageFacts : Type 0 where
   pub ended : (p q : Stage) (bytes piece body rest : ByteList) → Leads p bytes piece q → IsUnended q → ¬ (HoldsBody p bytes body rest)
   pub chunked : (bytes body rest : ByteList) → HoldsBody chunked_start bytes body rest ↔ IsChunked bytes body rest
   pub sized : (more : ℕ) (bytes body rest : ByteList) → HoldsBody (At.Sized more) bytes body rest ↔ ((length body ≡ more + 1) × (bytes ≡ body ++ rest))
+  pub long : (bytes front rest left : ByteList) (p q : Stage) (piece : ByteList) (at room limit : ℕ) (why : WireFault) → bytes ≡ front ++ rest → Leads p front piece q → room < length piece
+      → BrokeOff (Some bytes) p at room limit why (Some left) → why ≢ Failed → why ≡ TooLong (in_word (limit + 1))
   pub to_end : (bytes body rest : ByteList) → HoldsBody At.ToEnd bytes body rest ↔ ((body ≡ bytes) × (rest ≡ []))
 
 no_bytes : (body : ByteList) → length body ≡ 0 → body ≡ []
@@ -79,6 +81,9 @@ module _ (m : StageFacts) where
     short = λ form room bytes body rest s r.
         m.ended (start_of form) s.q bytes s.piece body rest s.leads s.unended (from_reads form bytes body rest r);
     past = past_limit;
+    long = λ form at limit bytes left why g broke other.
+        let more : limit < length g.past.piece = omega (arith, g.past.one_more) in
+        m.long bytes g.front g.rest left (start_of form) g.past.q g.past.piece at limit limit why g.cut g.past.leads more broke other;
   }
 
 fresh_broke : (a b : Option ByteList) (body : Body) (stage : Stage) (at limit : ℕ) (why : WireFault) → IsFresh body stage at limit
@@ -88,13 +93,25 @@ fresh_broke a b body stage at limit why f broke = rw (f.stage_is, f.at_is, f.roo
 gave_told : (a new : ByteList) (front : ByteList) → Gave (Some a) front (Some new) → a ≡ front ++ new
 gave_told a new front g = g
 
+no_long : {n : ℕ} (place : ℕ) → Malformed place ≡ TooLong n → ⊥
+no_long place e = cc
+
+-- bytes whose front gives more than a limit give more than it
+gives_more : (form : Framing) (limit : ℕ) (front new bytes : ByteList) → bytes ≡ front ++ new → GivesMore form limit front → GivesMore form limit bytes
+gives_more form limit front new bytes is g =
+    record { front = g.front; rest = g.rest ++ new; cut = is ∙ ap (λ l. l ++ new) g.cut ∙ append_assoc g.front g.rest new; past = g.past }
+
 told_explained : (facts : BodyFacts) (form : Framing) (at limit : ℕ) (bytes new : ByteList) (why : WireFault) → why ≢ Memory
     → BrokeOff (Some bytes) (start_of form) at limit limit why (Some new) → BodyFault form at limit bytes why
 told_explained facts form at limit bytes new Failed other b = tt
 told_explained facts form at limit bytes new Memory other b = tt
 told_explained facts form at limit bytes new (Malformed place) other b =
-    let front : take (length b.front) bytes ≡ b.front = ap (λ l. take (length b.front) l) b.told ∙ take-append_seam b.front new in
-    (length b.front, b.explains.0, subst (BeginsNoBody form) (sym front) (facts.strays form limit b.front b.explains.1))
+    let front : take (length b.front) bytes ≡ b.front = ap (λ l. take (length b.front) l) b.told ∙ take-append_seam b.front new in (
+      length b.front,
+      b.explains.0,
+      subst (BeginsNoBody form) (sym front) (facts.strays form limit b.front b.explains.1),
+      λ g. no_long place (facts.long form at limit bytes new (Malformed place) (gives_more form limit (take (length b.front) bytes) new bytes (b.told ∙ ap (λ l. l ++ new) (sym front)) g) b (λ e. cc)),
+    )
 told_explained facts form at limit bytes new (Ended place) other b =
     let all : bytes ≡ b.front = b.told ∙ ap (λ l. b.front ++ l) b.explains.1 ∙ append-nil b.front in
     (b.explains.0 ∙ ap (λ l. in_word (at + length l)) (sym all), subst (λ l. IsShort (start_of form) limit l) (sym all) b.explains.2)

@@ -14,7 +14,7 @@ use Rattle.httparse.specs.Grammar.{Field}
 use Rattle.httparse.specs.Spans.{name_and_value}
 use Rattle.std.specs.Prelude.{List, map}
 use Rattle.hr_http1.specs.Body.{ReadsBody, GivesMore, IsAnnounced, BodyFault, BodyFacts}
-use Rattle.hr_http1.specs.Message.{line_of, Kind, Frames, Holds, HoldsNone, BeginsNone, MessageFault}
+use Rattle.hr_http1.specs.Message.{line_of, Kind, Frames, Holds, HoldsNone, BeginsNone, Exceeds, MessageFault}
 
 -- bytes begin with at most one head of the kind
 abbrev pub HeadsAreOne : {H : Type 0} → Kind H → Type 0
@@ -45,6 +45,17 @@ lines_are (h ∷ hs) (f ∷ fs) e =
     let later = lines_are hs fs more in
     λ i. first i ∷ later i
 
+-- no continuation of the bytes begins with a head that says a framing
+abbrev pub FramesNone : {H : Type 0} → Kind H → ByteList → Type 0
+FramesNone {H} kind bytes = (more : ByteList) (h : H) (form : Framing) (after : ByteList) → ¬ (Frames kind (bytes ++ more) h form after)
+
+-- such bytes begin no message, and give no more than a limit
+pub frames_none : {H : Type 0} (kind : Kind H) (limit : ℕ) (bytes : ByteList) → FramesNone kind bytes → BeginsNone kind bytes × (¬ (Exceeds kind limit bytes))
+frames_none kind limit bytes none = (
+  (λ more k body left holds. none more k holds.form holds.after holds.frames),
+  (λ x. none [] x.h x.form x.after (subst (λ l. Frames kind l x.h x.form x.after) (sym (append-nil bytes)) x.frames)),
+)
+
 module _ {H : Type 0} (kind : Kind H) (one : HeadsAreOne kind) where
   -- a message behind a head has its body behind that head
   pub same_body : (bytes body rest : ByteList) (h k : H) (form : Framing) (after : ByteList) → Frames kind bytes h form after → Holds kind bytes k body rest → ReadsBody form after body rest
@@ -54,28 +65,36 @@ module _ {H : Type 0} (kind : Kind H) (one : HeadsAreOne kind) where
       subst (λ g. ReadsBody g after body rest) (sym forms) (subst (λ l. ReadsBody holds.form l body rest) (sym same.1) holds.reads)
 
   -- a head whose lines say no framing begins no message
-  pub unframed : (bytes rest : ByteList) (h : H) → kind.valid h → bytes ≡ kind.print h ++ rest → kind.form_of h ≡ None → BeginsNone kind (take (length (kind.print h)) bytes)
-  unframed bytes rest h ok cut none more k body left holds =
+  pub unframed : (bytes rest : ByteList) (h : H) → kind.valid h → bytes ≡ kind.print h ++ rest → kind.form_of h ≡ None → FramesNone kind (take (length (kind.print h)) bytes)
+  unframed bytes rest h ok cut none more k form after f =
       let front : take (length (kind.print h)) bytes ≡ kind.print h = ap (λ l. take (length (kind.print h)) l) cut ∙ take-append_seam (kind.print h) rest in
-      let same = one h k more holds.after ok holds.frames.ok (ap (λ l. l ++ more) (sym front) ∙ holds.frames.cut) in
-      none_some holds.form (sym none ∙ ap kind.form_of same.0 ∙ holds.frames.framed)
+      let same = one h k more after ok f.ok (ap (λ l. l ++ more) (sym front) ∙ f.cut) in
+      none_some form (sym none ∙ ap kind.form_of same.0 ∙ f.framed)
 
   frames_more : (after more all : ByteList) (h : H) (form : Framing) → kind.valid h → kind.form_of h ≡ Some form → all ≡ kind.print h ++ after → Frames kind (all ++ more) h form (after ++ more)
   frames_more after more all h form ok framed cut =
       record { ok = ok; framed = framed; cut = ap (λ l. l ++ more) cut ∙ append_assoc (kind.print h) after more }
+
+  -- what is behind a head gives as much as the bytes with it
+  same_more : (bytes after : ByteList) (h : H) (form : Framing) (limit : ℕ) → Frames kind bytes h form after → Exceeds kind limit bytes → GivesMore form limit after
+  same_more bytes after h form limit f x =
+      let same = one h x.h after x.after f.ok x.frames.ok (sym f.cut ∙ x.frames.cut) in
+      let forms : form ≡ x.form = some_same form x.form (sym f.framed ∙ ap kind.form_of same.0 ∙ x.frames.framed) in
+      subst (λ g. GivesMore g limit after) (sym forms) (subst (λ l. GivesMore x.form limit l) (sym same.1) x.more)
 
   -- why no body is read behind a head is why no message is read
   pub body_lost : (facts : BodyFacts) (bytes after : ByteList) (h : H) (form : Framing) (at limit : ℕ) (why : WireFault) → Frames kind bytes h form after → at ≡ length (kind.print h)
       → BodyFault form at limit after why → MessageFault kind limit bytes why
   body_lost facts bytes after h form at limit Failed f len fault = tt
   body_lost facts bytes after h form at limit Memory f len fault = tt
-  body_lost facts bytes after h form at limit (Malformed place) f len (count, is, none) =
+  body_lost facts bytes after h form at limit (Malformed place) f len (count, is, none, keeps) =
       let front : take (at + count) bytes ≡ kind.print h ++ take count after =
       ap (λ n. take (n + count) bytes) len ∙ ap (λ l. take (length (kind.print h) + count) l) f.cut ∙ take-append-add (kind.print h) after count in (
         at + count,
         is,
-        λ more k body rest holds.
-            none more body rest (same_body (take (at + count) bytes ++ more) body rest h k form (take count after ++ more) (frames_more (take count after) more (take (at + count) bytes) h form f.ok f.framed front) holds),
+        (λ more k body rest holds.
+            none more body rest (same_body (take (at + count) bytes ++ more) body rest h k form (take count after ++ more) (frames_more (take count after) more (take (at + count) bytes) h form f.ok f.framed front) holds)),
+        (λ x. keeps (same_more (take (at + count) bytes) (take count after) h form limit (record { ok = f.ok; cut = front; framed = f.framed }) x)),
       )
   body_lost facts bytes after h form at limit (Ended place) f len fault =
       let all : length bytes ≡ at + length after = ap length f.cut ∙ length-append (kind.print h) after ∙ ap (λ n. n + length after) (sym len) in (
@@ -100,7 +119,7 @@ module _ {H : Type 0} (kind : Kind H) (one : HeadsAreOne kind) where
       → (why ≡ Failed) ⊎ ((why ≡ Memory) ⊎ ((why ≡ Ended (in_word (length front))) × HoldsNone kind front))
   front_lost facts none front more body rest h limit Failed holds small fault = inl refl
   front_lost facts none front more body rest h limit Memory holds small fault = inr (inl refl)
-  front_lost facts none front more body rest h limit (Malformed at) holds small (count, is, never) =
+  front_lost facts none front more body rest h limit (Malformed at) holds small (count, is, never, keeps) =
       let all : take count front ++ (drop count front ++ more) ≡ front ++ more = sym (append_assoc (take count front) (drop count front) more) ∙ ap (λ l. l ++ more) (take-append-drop count front) in
       absurd (never (drop count front ++ more) h body rest (subst (λ l. Holds kind l h body rest) (sym all) holds))
   front_lost facts none front more body rest h limit (Ended at) holds small fault = inr (inr (ap (λ n. Ended n) fault.0, fault.1))
@@ -120,7 +139,7 @@ module _ {H : Type 0} (kind : Kind H) (one : HeadsAreOne kind) where
       → MessageFault kind limit bytes why → why ≢ Failed → why ≢ Memory → (why ≡ TooLong (length body)) ⊎ (why ≡ TooLong (in_word (limit + 1)))
   long_lost facts none bytes body rest h limit Failed holds long fault not_failed not_memory = absurd (not_failed refl)
   long_lost facts none bytes body rest h limit Memory holds long fault not_failed not_memory = absurd (not_memory refl)
-  long_lost facts none bytes body rest h limit (Malformed at) holds long (count, is, never) not_failed not_memory =
+  long_lost facts none bytes body rest h limit (Malformed at) holds long (count, is, never, keeps) not_failed not_memory =
       absurd (never (drop count bytes) h body rest (subst (λ l. Holds kind l h body rest) (sym (take-append-drop count bytes)) holds))
   long_lost facts none bytes body rest h limit (Ended at) holds long fault not_failed not_memory = absurd (fault.1 h body rest holds)
   long_lost facts none bytes body rest h limit (TooLong len) holds long (inl passes) not_failed not_memory =

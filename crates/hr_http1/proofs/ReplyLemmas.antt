@@ -15,9 +15,9 @@ use Rattle.hr_head.specs.declared.reply.ReplyHead.{ReplyHead}
 use Rattle.hr_head.specs.Reply.{IsReplyHead, ReadsReply, ReplyFault}
 use Rattle.hr_http1.specs.declared.passing.TheConstants.{INTERIM_LIMIT}
 use Rattle.hr_http1.specs.Body.{BodyFault, BodyFacts}
-use Rattle.hr_http1.specs.Message.{line_of, Holds, BeginsNone}
+use Rattle.hr_http1.specs.Message.{line_of, Frames}
 use Rattle.hr_http1.specs.Reply.{is_interim, IsWithin, IsInterim, ReplyHeads, print_passed, print_heads, reply_form, PassesOver, reply_kind, ReplyLost, HasPassed, HasHeads, HasFramed, fault_behind, IsLostBehind}
-use Rattle.hr_http1.proofs.MessageLemmas.{HeadsAreOne, PassesNone, lines_are, unframed, body_lost}
+use Rattle.hr_http1.proofs.MessageLemmas.{FramesNone, HeadsAreOne, PassesNone, frames_none, lines_are, unframed, body_lost}
 
 true_false : true ≡ false → ⊥
 true_false e = cc
@@ -69,17 +69,17 @@ heads_cut : (heads : ReplyHeads) (rest : ByteList) → print_heads heads ++ rest
 heads_cut heads rest = append_assoc (print_passed heads.passed) (print_response heads.head) rest
 
 -- the heads of a message behind those that were passed over
-held_behind : (head_only : Bool) (passed : List ResponseHead) (start body rest : ByteList) (heads : ReplyHeads) → AllByRecursion IsInterim passed
-    → (h : Holds (reply_kind head_only) (print_passed passed ++ start) heads body rest) → Behind passed heads.passed heads.head start h.after
-held_behind head_only passed start body rest heads all holds =
-    let ok = holds.frames.ok in
-    behind passed heads.passed heads.head start holds.after all ok.interim ok.within ok.last (holds.frames.cut ∙ heads_cut heads holds.after)
+held_behind : (head_only : Bool) (passed : List ResponseHead) (start after : ByteList) (heads : ReplyHeads) (form : Framing) → AllByRecursion IsInterim passed
+    → Frames (reply_kind head_only) (print_passed passed ++ start) heads form after → Behind passed heads.passed heads.head start after
+held_behind head_only passed start after heads form all f =
+    let ok = f.ok in
+    behind passed heads.passed heads.head start after all ok.interim ok.within ok.last (f.cut ∙ heads_cut heads after)
 
-held_start : (head_only : Bool) (passed : List ResponseHead) (start body rest : ByteList) (heads : ReplyHeads) → AllByRecursion IsInterim passed
-    → Holds (reply_kind head_only) (print_passed passed ++ start) heads body rest → Starts start
-held_start head_only passed start body rest heads all holds =
-    let b = held_behind head_only passed start body rest heads all holds in
-    starts b.more heads.head start holds.after b.interim holds.frames.ok.within b.cut
+held_start : (head_only : Bool) (passed : List ResponseHead) (start after : ByteList) (heads : ReplyHeads) (form : Framing) → AllByRecursion IsInterim passed
+    → Frames (reply_kind head_only) (print_passed passed ++ start) heads form after → Starts start
+held_start head_only passed start after heads form all f =
+    let b = held_behind head_only passed start after heads form all f in
+    starts b.more heads.head start after b.interim f.ok.within b.cut
 
 heads_same : (a b : ReplyHeads) → a.passed ≡ b.passed → a.head ≡ b.head → a ≡ b
 heads_same a b p h = λ i. record { passed = p i; head = h i }
@@ -118,8 +118,8 @@ pub long_replies : (head_only : Bool) → PassesNone (reply_kind head_only)
 long_replies head_only bytes passes more heads body rest holds =
     let cut : bytes ++ more ≡ print_passed passes.over.passed ++ (passes.start ++ more) =
     ap (λ l. l ++ more) passes.over.cut ∙ append_assoc (print_passed passes.over.passed) passes.start more in
-    let s = held_start head_only passes.over.passed (passes.start ++ more) body rest heads passes.over.interim
-    (subst (λ l. Holds (reply_kind head_only) l heads body rest) cut holds) in
+    let s = held_start head_only passes.over.passed (passes.start ++ more) holds.after heads holds.form passes.over.interim
+    (subst (λ l. Frames (reply_kind head_only) l heads holds.form holds.after) cut holds.frames) in
     let fits : length (print_response s.head) ≤ length passes.start = omega (arith, s.within.short, passes.long) in
     let r = front_of (print_response s.head) passes.start more s.rest s.cut fits in
     passes.none s.head r.0 (record { reads = (s.within.valid, r.1); few = s.within.few; short = s.within.short })
@@ -134,20 +134,19 @@ head_lost head_only limit count at bytes start Failed few p fault = tt
 head_lost head_only limit count at bytes start Memory few p fault = tt
 head_lost head_only limit count at bytes start (Malformed place) few p fault =
     let front : take (at + place) bytes ≡ print_passed p.passed ++ take place start =
-    ap (λ n. take (n + place) bytes) p.len ∙ ap (λ l. take (length (print_passed p.passed) + place) l) p.cut ∙ take-append-add (print_passed p.passed) start place in (
-      at + place,
-      refl,
-      λ more heads body rest holds.
-          let cut : take (at + place) bytes ++ more ≡ print_passed p.passed ++ (take place start ++ more) = ap (λ l. l ++ more) front ∙ append_assoc (print_passed p.passed) (take place start) more in
-          let s = held_start head_only p.passed (take place start ++ more) body rest heads p.interim (subst (λ l. Holds (reply_kind head_only) l heads body rest) cut holds) in
-          some_many (fault.1 more s.head s.rest (s.within.valid, s.cut)) s.within.few,
-    )
+    ap (λ n. take (n + place) bytes) p.len ∙ ap (λ l. take (length (print_passed p.passed) + place) l) p.cut ∙ take-append-add (print_passed p.passed) start place in
+    let none : FramesNone (reply_kind head_only) (take (at + place) bytes) = λ more heads form after f.
+    let cut : take (at + place) bytes ++ more ≡ print_passed p.passed ++ (take place start ++ more) = ap (λ l. l ++ more) front ∙ append_assoc (print_passed p.passed) (take place start) more in
+    let s = held_start head_only p.passed (take place start ++ more) after heads form p.interim (subst (λ l. Frames (reply_kind head_only) l heads form after) cut f) in
+    some_many (fault.1 more s.head s.rest (s.within.valid, s.cut)) s.within.few in
+    let both = frames_none (reply_kind head_only) limit (take (at + place) bytes) none in
+    (at + place, refl, both.0, both.1)
 head_lost head_only limit count at bytes start (Ended place) few p fault =
     let all : length bytes ≡ at + length start = ap length p.cut ∙ length-append (print_passed p.passed) start ∙ ap (λ n. n + length start) (sym p.len) in
     let over : PassesOver bytes start = record { passed = p.passed; few = subst (λ n. n ≤ INTERIM_LIMIT) (sym p.many) few; interim = p.interim; cut = p.cut } in (
       ap (λ n. in_word (at + n)) fault.0 ∙ ap in_word (sym all),
       (λ heads body rest holds.
-          let s = held_start head_only p.passed start body rest heads p.interim (subst (λ l. Holds (reply_kind head_only) l heads body rest) p.cut holds) in
+          let s = held_start head_only p.passed start holds.after heads holds.form p.interim (subst (λ l. Frames (reply_kind head_only) l heads holds.form holds.after) p.cut holds.frames) in
           fault.2 s.head s.rest (starts_reads start s)),
       inl (record { start = start; over = over; may = fault.3 }),
     )
@@ -215,15 +214,14 @@ pub ninth_lost : (head_only : Bool) (limit count at : ℕ) (old mid : Option Byt
 ninth_lost head_only limit count at None mid many small p = tt
 ninth_lost head_only limit count at (Some old) None many small p = absurd p
 ninth_lost head_only limit count at (Some old) (Some mid) many small p =
-    let front : take at old ≡ print_passed p.passed = ap (λ n. take n old) p.len ∙ ap (λ l. take (length (print_passed p.passed)) l) p.cut ∙ take-append_seam (print_passed p.passed) mid in (
-      at,
-      small,
-      λ more heads body rest holds.
-          let b = held_behind head_only p.passed more body rest heads p.interim (subst (λ l. Holds (reply_kind head_only) l heads body rest) (ap (λ l. l ++ more) front) holds) in
-          let all : length heads.passed ≡ length p.passed + length b.more = ap length b.are ∙ length-append p.passed b.more in
-          let few = holds.frames.ok.few in
-          omega (arith, all, few, many, p.many),
-    )
+    let front : take at old ≡ print_passed p.passed = ap (λ n. take n old) p.len ∙ ap (λ l. take (length (print_passed p.passed)) l) p.cut ∙ take-append_seam (print_passed p.passed) mid in
+    let none : FramesNone (reply_kind head_only) (take at old) = λ more heads form after f.
+    let b = held_behind head_only p.passed more after heads form p.interim (subst (λ l. Frames (reply_kind head_only) l heads form after) (ap (λ l. l ++ more) front) f) in
+    let all : length heads.passed ≡ length p.passed + length b.more = ap length b.are ∙ length-append p.passed b.more in
+    let few = f.ok.few in
+    omega (arith, all, few, many, p.many) in
+    let both = frames_none (reply_kind head_only) limit (take at old) none in
+    (at, small, both.0, both.1)
 
 form_is : (head_only : Bool) (head : ReplyHead) (heads : ReplyHeads) → head.status ≡ status_code heads.head → head.heads ≡ map line_of heads.head.fields
     → reply_framing head_only head.status head.heads ≡ reply_form head_only heads
@@ -236,7 +234,8 @@ unframed_lost head_only limit at None new head small h none = tt
 unframed_lost head_only limit at (Some old) None head small h none = absurd h
 unframed_lost head_only limit at (Some old) (Some new) head small h none =
     let never = unframed (reply_kind head_only) (replies_are_one head_only) old new h.heads h.ok h.cut (sym (form_is head_only head h.heads h.status h.lines) ∙ none) in
-    (at, small, subst (λ n. BeginsNone (reply_kind head_only) (take n old)) (sym h.len) never)
+    let both = frames_none (reply_kind head_only) limit (take at old) (subst (λ n. FramesNone (reply_kind head_only) (take n old)) (sym h.len) never) in
+    (at, small, both.0, both.1)
 
 -- why no body is read behind the heads
 pub reply_body_lost : (facts : BodyFacts) (head_only : Bool) (at limit : ℕ) (old mid : Option ByteList) (head : ReplyHead) (form : Framing) (why : WireFault)

@@ -13,17 +13,17 @@ use Rattle.hr_head.specs.Request.{IsRequestHead, ReadsRequest, RequestFault}
 use Rattle.hr_head.specs.Verb.{IsVerb}
 use Rattle.hr_http1.specs.declared.message.Request.{Request}
 use Rattle.hr_http1.specs.Body.{ReadsBody, BodyFault, BodyFacts}
-use Rattle.hr_http1.specs.Message.{line_of, Frames, Holds, BeginsNone}
+use Rattle.hr_http1.specs.Message.{line_of, Frames}
 use Rattle.hr_http1.specs.Request.{IsWithin, request_form, request_kind, RequestLost, SpellsRequest}
-use Rattle.hr_http1.proofs.MessageLemmas.{HeadsAreOne, PassesNone, lines_are, unframed, body_lost}
+use Rattle.hr_http1.proofs.MessageLemmas.{FramesNone, HeadsAreOne, PassesNone, frames_none, lines_are, unframed, body_lost}
 use Rattle.hr_http1.proofs.ReplyLemmas.{front_of, some_many}
 
 -- bytes begin with at most one head
 pub requests_are_one : HeadsAreOne request_kind
 requests_are_one h k r s a b e = request_unique (print_request h ++ r) h k r s (a.valid, refl) (b.valid, e)
 
-held_reads : (bytes body rest : ByteList) (h : Grammatical) (holds : Holds request_kind bytes h body rest) → ReadsRequest bytes h holds.after
-held_reads bytes body rest h holds = let ok = holds.frames.ok in record { reads = (ok.valid, holds.frames.cut); few = ok.few; short = ok.short }
+held_reads : (bytes after : ByteList) (h : Grammatical) (form : Framing) (f : Frames request_kind bytes h form after) → ReadsRequest bytes h after
+held_reads bytes after h form f = let ok = f.ok in record { reads = (ok.valid, f.cut); few = ok.few; short = ok.short }
 
 -- bytes whose head passes its limit begin no message
 pub long_requests : PassesNone request_kind
@@ -38,16 +38,15 @@ head_lost : (limit : ℕ) (bytes : ByteList) (why : WireFault) → RequestFault 
 head_lost limit bytes Failed fault = tt
 head_lost limit bytes Memory fault = tt
 head_lost limit bytes (Malformed at) fault =
-    let small : at ≡ in_word at = omega (arith, fault.0) in (
-      at,
-      small,
-      λ more h body rest holds.
-          let r = held_reads (take at bytes ++ more) body rest h holds in
-          some_many (fault.1 more h holds.after r.reads) r.few,
-    )
+    let small : at ≡ in_word at = omega (arith, fault.0) in
+    let none : FramesNone request_kind (take at bytes) = λ more h form after f.
+    let r = held_reads (take at bytes ++ more) after h form f in
+    some_many (fault.1 more h after r.reads) r.few in
+    let both = frames_none request_kind limit (take at bytes) none in
+    (at, small, both.0, both.1)
 head_lost limit bytes (Ended at) fault =
     let small : at ≡ in_word (length bytes) = omega (arith, fault.0, fault.1) in
-    (small, (λ h body rest holds. fault.2 h holds.after (held_reads bytes body rest h holds)), inl fault.3)
+    (small, (λ h body rest holds. fault.2 h holds.after (held_reads bytes holds.after h holds.form holds.frames)), inl fault.3)
 head_lost limit bytes (TooLong len) fault = inl (fault.0, record { long = fault.1; none = fault.2; may = fault.3 })
 
 pub request_head_lost : (limit : ℕ) (old : Option ByteList) (why : WireFault) → IfSome old (λ bytes. RequestFault bytes why) → IfSome old (λ bytes. RequestLost limit bytes why)
@@ -71,7 +70,8 @@ request_unframed limit at (Some old) (Some new) head len small (h, reads, says) 
     let lines = lines_are head.heads h.fields says.heads in
     let ok : IsWithin h = record { valid = reads.reads.0; few = reads.few; short = reads.short } in
     let never = unframed request_kind requests_are_one old new h ok reads.reads.1 (sym (form_of_head head h lines) ∙ none) in
-    (at, small, subst (λ n. BeginsNone request_kind (take n old)) (sym (len ∙ says.len)) never)
+    let both = frames_none request_kind limit (take at old) (subst (λ n. FramesNone request_kind (take n old)) (sym (len ∙ says.len)) never) in
+    (at, small, both.0, both.1)
 
 -- a body behind the head makes a request
 pub request_read : (old mid new : Option ByteList) (head : RequestHead) (form : Framing) (request : Request) → WhereTold old mid (λ bytes rest. IsRequestHead bytes head rest)

@@ -1,5 +1,5 @@
 -- The body of a message in its framing (RFC 9112, section 6.3).
-use Rattle.std.specs.Prelude.{◌≡◌, ◌↔◌, ℕ, zero, suc, ◌+◌, ◌<◌, ◌⊎◌, [], ◌++◌, length, take}
+use Rattle.std.specs.Prelude.{◌≡◌, ◌≢◌, ◌↔◌, ℕ, zero, suc, ◌+◌, ◌<◌, ◌⊎◌, [], ◌++◌, length, take, Some}
 use Rattle.hr_base.specs.Bytes.{ByteList}
 use Rattle.hr_body.specs.declared.fault.WireFault.{WireFault}
 use Rattle.hr_body.specs.declared.fault.WireFault.TheVariants.{Failed, Malformed, Ended, TooLong, Memory}
@@ -7,7 +7,7 @@ use Rattle.hr_body.specs.declared.stage.Stage.{Stage}
 use Rattle.hr_body.specs.declared.stage.Stage.TheVariants as At
 use Rattle.hr_body.specs.Chunked.{IsChunked}
 use Rattle.hr_body.specs.Leading.{HoldsBody, Strays, IsShort, IsPast}
-use Rattle.hr_body.specs.Reading.{in_word}
+use Rattle.hr_body.specs.Reading.{BrokeOff, in_word}
 use Rattle.hr_body.specs.Stage.{chunked_start}
 use Rattle.hr_frame.specs.declared.framing.Framing.{Framing}
 use Rattle.hr_frame.specs.declared.framing.Framing.TheVariants.{NoBody, Sized, Chunked, ToEnd}
@@ -54,6 +54,7 @@ BodyFault form at limit bytes Failed = Unit {0}
 BodyFault form at limit bytes Memory = Unit {0}
 BodyFault form at limit bytes (Malformed place) =
     (count : ℕ) × (place ≡ in_word (at + count)) × BeginsNoBody form (take count bytes)
+    × (¬ (GivesMore form limit (take count bytes)))
 BodyFault form at limit bytes (Ended place) =
     (place ≡ in_word (at + length bytes)) × IsShort (start_of form) limit bytes
 BodyFault form at limit bytes (TooLong len) =
@@ -61,7 +62,7 @@ BodyFault form at limit bytes (TooLong len) =
 
 -- what holds of bodies, whatever reads them: one that is begun at its framing's start is one in its
 -- framing; bytes begin with at most one; those that stray, or end too early, with none; and those
--- that give more than a limit with none within it
+-- that give more than a limit with none within it, and are read as too long
 pub record BodyFacts : Type 0 where
   pub held : (form : Framing) (bytes body rest : ByteList)
       → HoldsBody (start_of form) bytes body rest ↔ ReadsBody form bytes body rest
@@ -74,3 +75,7 @@ pub record BodyFacts : Type 0 where
       → IsShort (start_of form) room bytes → ¬ (ReadsBody form bytes body rest)
   pub past : (form : Framing) (limit : ℕ) (bytes body rest : ByteList)
       → GivesMore form limit bytes → ReadsBody form bytes body rest → limit < length body
+  pub long : (form : Framing) (at limit : ℕ) (bytes left : ByteList) (why : WireFault)
+      → GivesMore form limit bytes
+      → BrokeOff (Some bytes) (start_of form) at limit limit why (Some left) → why ≢ Failed
+      → why ≡ TooLong (in_word (limit + 1))

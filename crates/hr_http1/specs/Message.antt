@@ -16,8 +16,8 @@ abbrev pub line_of : Field → Head
 line_of field = record { name = field.name; value = field_value field }
 
 -- A kind of messages, by its heads: which are valid, the bytes of each, and the framing that each
--- says, if it says one. Of bytes, whether they end within a head, and whether they begin with a head
--- that passes its limit.
+-- says, if it says one. Of bytes, whether they end within a head, and whether they begin with a
+-- head that passes its limit.
 pub record Kind (H : Type 0) : Type 1 where
   pub valid : H → Type 0
   pub print : H → ByteList
@@ -74,12 +74,14 @@ pub record Exceeds {H : Type 0} (kind : Kind H) (limit : ℕ) (bytes : ByteList)
   pub more : GivesMore form limit after
 
 -- Why no message is read off the bytes that were left: the first of them begin none, whatever
--- follows; or they hold none and end within a head or a body; or a head or a body is too long.
+-- follows, and give no more of a body than its limit; or they hold none and end within a head or a
+-- body; or a head or a body is too long.
 abbrev pub MessageFault : {H : Type 0} → Kind H → ℕ → ByteList → WireFault → Type 0
 MessageFault kind limit bytes Failed = Unit {0}
 MessageFault kind limit bytes Memory = Unit {0}
 MessageFault kind limit bytes (Malformed at) =
     (count : ℕ) × (at ≡ in_word count) × BeginsNone kind (take count bytes)
+    × (¬ (Exceeds kind limit (take count bytes)))
 MessageFault kind limit bytes (Ended at) =
     (at ≡ in_word (length bytes)) × HoldsNone kind bytes
     × (kind.begins bytes ⊎ EndsInBody kind limit bytes)

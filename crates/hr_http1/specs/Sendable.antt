@@ -9,9 +9,9 @@ use Rattle.hr_http1.specs.declared.message.Reply.{Reply}
 use Rattle.hr_http1.specs.declared.message.Request.{Request}
 use Rattle.hr_http1.specs.Written.{has_content, has_length, reply_lines, reply_head, request_lines, request_head, sent_body}
 
--- The status has three digits and is none of an interim reply; each name is a token, and each value
--- has no control byte but the tab and no blank at its ends; the head keeps its limits; where the body
--- is written, no given line frames it, and its length is below 2^63.
+-- The status has three digits and is none of an interim reply; each name is a token, and each
+-- value has no control byte but the tab and no blank at its ends; the head keeps its limits; where
+-- the body is written, no given line frames it, and its length is below 2^63.
 pub record IsSendableReply (head_only : Bool) (reply : Reply) : Type 0 where
   pub low : 200 ≤ reply.status
   pub high : reply.status ≤ 999

@@ -15,13 +15,14 @@ ghost use Rattle.hr_http1.specs.Sendable.{reply_as_read, request_as_read};
 ghost use Rattle.hr_http1.specs.Sendable.{IsSendableReply, IsSendableRequest};
 ghost use Rattle.hr_http1.specs.Written.{reply_text, request_text_of};
 
-use hr_body::{bodies_are_the_grammars, pieces_are_of_one_body};
+use hr_body::{bodies_are_the_grammars, bytes_have_one_outcome, pieces_are_of_one_body};
 
 /// A law: the bodies that are read by the stages of `hr_body` are those of their framings.
 pub fn bodies_are_read_by_their_framing()
     ensures { BodyFacts }
 {
     bodies_are_the_grammars();
+    bytes_have_one_outcome();
     pieces_are_of_one_body();
 }
 
@@ -37,8 +38,8 @@ pub fn bytes_begin_with_one_message()
     bodies_are_read_by_their_framing();
 }
 
-/// A law: where bytes begin with a message whose body keeps the limit, no fault explains that none is
-/// read, but one of the device, and want of memory.
+/// A law: where bytes begin with a message whose body keeps the limit, no fault explains that none
+/// is read, but one of the device, and want of memory.
 pub fn a_message_that_is_there_is_read()
     ensures reply { (head_only : Bool) (limit : ℕ) (bytes rest : ByteList) (reply : Reply)
         (why : WireFault) → SpellsReply head_only bytes reply rest → length reply.body ≤ limit
@@ -50,8 +51,8 @@ pub fn a_message_that_is_there_is_read()
     bodies_are_read_by_their_framing();
 }
 
-/// A law: a front of a message whose body keeps the limit comes to `Ended` behind its last byte where
-/// it is not read, but for a fault of the device and want of memory.
+/// A law: a front of a message whose body keeps the limit comes to `Ended` behind its last byte
+/// where it is not read, but for a fault of the device and want of memory.
 pub fn a_message_that_is_cut_off_is_ended()
     ensures reply { (head_only : Bool) (limit : ℕ) (front more rest : ByteList) (reply : Reply)
         (why : WireFault) → SpellsReply head_only (front ++ more) reply rest
@@ -65,8 +66,8 @@ pub fn a_message_that_is_cut_off_is_ended()
     bodies_are_read_by_their_framing();
 }
 
-/// A law: a message whose body passes the limit comes to `TooLong`, with the body's length or with one
-/// more than the limit, but for a fault of the device and want of memory.
+/// A law: a message whose body passes the limit comes to `TooLong`, with the body's length or with
+/// one more than the limit, but for a fault of the device and want of memory.
 pub fn a_body_past_the_limit_is_too_long()
     ensures reply { (head_only : Bool) (limit : ℕ) (bytes rest : ByteList) (reply : Reply)
         (why : WireFault) → SpellsReply head_only bytes reply rest → limit < length reply.body
@@ -80,9 +81,9 @@ pub fn a_body_past_the_limit_is_too_long()
     bodies_are_read_by_their_framing();
 }
 
-/// A law: the pieces that are read of the body of a reply that was opened are at the front of the body
-/// of the one reply that the bytes spell; where the body is at its end, they are all of it; and why no
-/// further piece is read is why no reply is read.
+/// A law: the pieces that are read of the body of a reply that was opened are at the front of the
+/// body of the one reply that the bytes spell; where the body is at its end, they are all of it;
+/// and why no further piece is read is why no reply is read.
 pub fn pieces_are_of_the_reply()
     ensures piece { (head_only : Bool) (limit : ℕ) (bytes rest left over : ByteList)
         (reply whole : Reply) (body now : Body) (piece : ByteList)
@@ -106,8 +107,8 @@ pub fn pieces_are_of_the_reply()
     pieces_are_of_one_body();
 }
 
-/// A law: what is written for a message is read as that message, with the line that gives the length
-/// of its body, and without a body that is not written.
+/// A law: what is written for a message is read as that message, with the line that gives the
+/// length of its body, and without a body that is not written.
 pub fn what_is_written_is_read_back()
     ensures reply { (head_only : Bool) (reply : Reply) (rest : ByteList)
         → IsSendableReply head_only reply

@@ -21,5 +21,5 @@ pub use laws::{
 pub use message::{Reply, Request};
 pub use passing::INTERIM_LIMIT;
 pub use request::read_request;
-pub use response::{open_response, read_response};
+pub use response::{BODY_LIMIT, open_response, read_response};
 pub use writing::{write_request, write_response};

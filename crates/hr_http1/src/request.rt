@@ -15,9 +15,9 @@ use hr_head::read_request_head;
 use std::alloc::Global;
 
 /// A request, taken off the device to its last byte, or `None` where the device ended before the
-/// first byte. Its body has at most `limit` bytes: `TooLong` comes where more are announced or come.
-/// `Failed`, `Malformed` and `Ended` come as `WireFault` says, and `Ended` also where the device
-/// ended within what may be a target.
+/// first byte. Its body has at most `limit` bytes: `TooLong` comes where more are announced or
+/// come. `Failed`, `Malformed` and `Ended` come as `WireFault` says, and `Ended` also where the
+/// device ended within what may be a target.
 pub fn read_request<L: Source>(
     alloc: Global,
     link: &mut L,

@@ -1,5 +1,5 @@
-//! Replies read off a device: whole, or with a body that is read in pieces (RFC 9112, sections 4 and
-//! 6.3).
+//! Replies read off a device: whole, or with a body that is read in pieces (RFC 9112, sections 4
+//! and 6.3).
 ghost use Rattle.std.specs.Prelude.{◌≡◌, ◌≤◌, length, None, IfOk, IfErr, IfSome, ℕ};
 ghost use Rattle.hr_body.specs.Fault.{FailsByDevice};
 ghost use Rattle.hr_body.specs.Reading.{WhereTold};

@@ -185,8 +185,9 @@ pub fn write_response<K: Sink>(
 }
 
 /// Writes a request, whose verb is known: its first line, the given field lines, the line with the
-/// length of its body, an empty line, and the body. The length is not written with `GET`, `HEAD` and
-/// `DELETE`. Where the device fails, a front of this was sent; where memory is wanting, nothing was.
+/// length of its body, an empty line, and the body. The length is not written with `GET`, `HEAD`
+/// and `DELETE`. Where the device fails, a front of this was sent; where memory is wanting,
+/// nothing was.
 pub fn write_request<K: Sink>(
     alloc: Global,
     out: &mut K,

@@ -9,5 +9,6 @@ returns c = body_facts (record {
   ended = c.pieces_are_of_one_body.ensures.ended;
   chunked = c.bodies_are_the_grammars.ensures.chunked;
   sized = c.bodies_are_the_grammars.ensures.sized;
+  long = c.bytes_have_one_outcome.ensures.too_long;
   to_end = c.bodies_are_the_grammars.ensures.to_end;
 })
