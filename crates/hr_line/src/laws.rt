@@ -61,8 +61,9 @@ pub fn lanes_stay_in_order()
 {}
 
 /// A law: a lane opens with the promise of each destination, and keeps it with each admission of a
-/// revision that was not admitted before, and with each step; so does the work of each revision that
-/// it holds go on standing.
+/// revision that was not admitted before, and with each step, as it keeps the work of each revision
+/// that it holds standing there. So each destination that was opened quiet, telling its content, with
+/// all of it under its own digest, has its promise at every state.
 pub fn destinations_keep_their_promise()
     ensures opens { (s : State) → IsOpening s → AreKept s.dests s }
     ensures admits { (opened : List Link) (s t : State) (a : Admitted) (answer : Admit)
