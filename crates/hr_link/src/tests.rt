@@ -74,6 +74,43 @@ fn a_dial_in_memory_gives_its_replies_in_turn_and_fails_by_its_list(
     Ok(())
 }
 
+#[test]
+fn a_fork_goes_on_from_where_the_dial_was(rt: HostRuntime) -> Result<(), Fail> {
+    let alloc = rt.alloc();
+    let replies = texts(alloc, &["ab", "c"])?;
+    let mut dial = MemDial::new(alloc, replies, numbers(alloc, &[2, 4])?)?;
+    assert_eq!(rt; called(&mut dial, &mut [0; 4]), Ok(2));
+    assert_eq!(rt; called(&mut dial, &mut [0; 4]), Err(DialFault::Failed));
+    let mut other = dial.fork()?;
+    assert_eq!(rt; (dial.faults(), other.faults()), (1, 0));
+    for answer in [Ok(1), Err(DialFault::Failed)] {
+        assert_eq!(rt; called(&mut dial, &mut [0; 4]), answer);
+        assert_eq!(rt; called(&mut other, &mut [0; 4]), answer);
+    }
+    assert!(rt; were_given_back(dial.given_back(), &[("ab", 0), ("c", 0)]));
+    assert!(rt; were_given_back(other.given_back(), &[("ab", 0), ("c", 0)]));
+    assert_eq!(rt; (dial.faults(), other.faults()), (2, 1));
+    Ok(())
+}
+
+#[test]
+fn a_door_in_memory_lets_its_callers_in_and_then_none(rt: HostRuntime) -> Result<(), Fail> {
+    let alloc = rt.alloc();
+    let mut door = MemDoor::new(alloc, texts(alloc, &["GET", "PUT"])?)?;
+    let mut first = door.accept()?.ok_or("the first caller")?;
+    let mut second = door.accept()?.ok_or("the second caller")?;
+    assert_eq!(rt; echo(&mut second, &mut [0; 4]), Ok(3));
+    door.hang_up(second);
+    assert_eq!(rt; echo(&mut first, &mut [0; 4]), Ok(3));
+    door.hang_up(first);
+    assert!(rt; door.accept()?.is_none());
+    assert!(rt; door.accept()?.is_none());
+    assert!(rt; were_given_back(door.given_back(), &[("PUT", 0), ("GET", 0)]));
+    assert_eq!(rt; door.faults(), 0);
+    handed_over(door);
+    Ok(())
+}
+
 // A link that gives two bytes, whose first read and first and third write fail.
 fn faulty_link(alloc: Global) -> Result<MemLink, Fail> {
     let bytes = Bytes::of(alloc, b"ab")?;
