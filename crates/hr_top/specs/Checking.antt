@@ -1,5 +1,5 @@
 -- Which file a check reads, and what it says of the bytes that stand there. (Our own.)
-use Rattle.std.specs.Prelude.{◌≡◌, ◌⊎◌, ℕ, List, [], ◌∷◌, length, codes, Option, Some, None, IfSome, Ok, Err}
+use Rattle.std.specs.Prelude.{⊤, ◌≡◌, ◌⊎◌, ℕ, List, [], ◌∷◌, length, codes, Option, Some, None, IfSome, Ok, Err}
 use Rattle.hr_base.specs.Bytes.{ByteList, Text}
 use Rattle.hr_cause.specs.Stream.{Rose}
 use Rattle.hr_tree.specs.Path.{IsPath}
@@ -59,7 +59,7 @@ UnfitAt files path text = (IsMissing files path × (text ≡ missing_text)) ⊎ 
 -- the outcome is a refusal of a file by this text, unless memory ran out
 abbrev pub SaysUnfit : Text → Outcome → Type 0
 SaysUnfit text (Unfit said) = said ≡ text
-SaysUnfit text Memory = Unit {0}
+SaysUnfit text Memory = ⊤
 SaysUnfit text (Replayed said status) = ⊥
 SaysUnfit text (Checked said) = ⊥
 SaysUnfit text Usage = ⊥
@@ -72,7 +72,7 @@ SaysUnfit text TreeFaulted = ⊥
 abbrev pub Judges : ByteList → Outcome → Type 0
 Judges bytes (Checked text) = IsFit bytes text
 Judges bytes (Unfit text) = IsUnfit bytes text
-Judges bytes Memory = Unit {0}
+Judges bytes Memory = ⊤
 Judges bytes (Replayed text status) = ⊥
 Judges bytes Usage = ⊥
 Judges bytes (Bad text) = ⊥
