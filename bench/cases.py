@@ -1,13 +1,14 @@
 #!/usr/bin/env python3
 """Writes the cases of `crates/hr_cases`, which that crate's program reads from its standard input,
-and what it must print for them. What it must print comes from `model.py` alone.
+and what it must print for them. What it must print comes from `model.py` and `config_model.py` alone;
+the cases of checks, patterns and digests stand in `config_cases.py`.
 
 The form of a case stands at the head of crates/hr_cases/src/main.rt, and the form of an answer is:
 
     case NAME
     status N
     sent LENGTH [TEXT]                  the text that was sent
-    faults N M                          of the input, and of the output
+    faults N M L                        of the input, of the output and of the tree
     entry JOB.REV WORD ..               `show journal`, and what a task does
     cause WORD ..                       `show causes`
     tag REG REPO TAG DIGEST             `show tags`, and of registry 2 behind a task
@@ -17,6 +18,8 @@ The form of a case stands at the head of crates/hr_cases/src/main.rt, and the fo
     blob DIGEST BYTES
     manifest DIGEST MEDIA BYTES
     named TAG DIGEST LABEL ..
+
+A line that is a case by itself has one line behind it: itself, `:` and the answer.
 
 To add a case, add it below to the list that fits, and run this script.
 
@@ -29,6 +32,7 @@ import random
 import re
 import sys
 
+import config_cases
 import model
 from compare import Maker
 from model import plain
@@ -41,7 +45,7 @@ class Case:
 
     def __init__(self, name, script=b"", show=(), words=(b"replay",)):
         self.lines, self.script, self.shows = ["case " + name], b"", list(show)
-        self.words, self.devices, self.tasks = list(words), {}, []
+        self.words, self.devices, self.tasks, self.files = list(words), {}, [], {}
         for word in words:
             self.lines.append("word " + escaped(word))
         self.text(script)
@@ -56,15 +60,23 @@ class Case:
             self.lines.append("text " + escaped(rest))
         return self
 
-    def each(self, first, end, text):
+    def each(self, first, end, text, decimal=False):
         """The input goes on with this text for each of these numbers, in the place of `*`."""
-        made = (text.replace("*", "%04x" % number) for number in range(first, end))
+        kind, form = ("count", "%d") if decimal else ("each", "%04x")
+        made = (text.replace("*", form % number) for number in range(first, end))
         self.script += "".join(made).encode()
-        self.lines.append("each %d %d %s" % (first, end, escaped(text.encode())))
+        self.lines.append("%s %d %d %s" % (kind, first, end, escaped(text.encode())))
+        return self
+
+    def file(self, path):
+        """What the input had so far is a file, and the input begins anew."""
+        path = path.encode() if isinstance(path, str) else path
+        self.files[path], self.script = self.script, b""
+        self.lines.append("file " + escaped(path))
         return self
 
     def device(self, **numbers):
-        """`pieces`, `failing_reads` or `failing_writes`."""
+        """`pieces`, `failing_reads`, `failing_writes` or `failing_files`."""
         for kind, listed in numbers.items():
             self.devices[kind] = listed
             self.lines.append(" ".join([kind] + [str(number) for number in listed]))
@@ -80,10 +92,10 @@ class Case:
         return self.lines + ["show " + show for show in self.shows] + ["run"]
 
     def wanted(self):
-        ending = model.top(self.words, self.script, **self.devices)
+        ending = model.top(self.words, self.script, self.files, **self.devices)
         said = [self.lines[0], "status %d" % ending.status]
         said.append("sent %d [%s]" % (len(ending.text), plain(ending.text)))
-        said.append("faults %d %d" % ending.faults)
+        said.append("faults %d %d %d" % ending.faults)
         for show in self.shows:
             said += SHOWS[show](ending)
         for name, to, tag, how in self.tasks:
@@ -610,15 +622,37 @@ def of_chance():
     return cases
 
 
+class Check(Case):
+    """A check of a file `c.json`, which its text goes into."""
+
+    def __init__(self, name, text=""):
+        super().__init__(name, text, words=(b"check", b"c.json"))
+
+    def given(self):
+        return self.filed().lines + ["run"]
+
+    def wanted(self):
+        return Case.wanted(self.filed())
+
+    def filed(self):
+        return self if self.files else self.file("c.json")
+
+
+def of_checks():
+    return (config_cases.of_configurations(Check) + config_cases.of_fields(Check) + config_cases.of_wholes(Check)
+            + config_cases.of_sizes(Check, Check) + config_cases.of_hostile(Check, Check) + config_cases.of_words(Case))
+
+
 GROUPS = [
     of_scripts, of_devices, of_executions, of_tags, of_contents, of_journals, of_graphs, of_manifests, of_causes,
-    of_tasks, of_chance,
+    of_tasks, of_chance, of_checks, config_cases.of_patterns, config_cases.of_digests,
 ]
 
 
 def main():
     cases = [case for group in GROUPS for case in group()]
-    assert len({case.lines[0] for case in cases}) == len(cases)
+    named = [case.lines[0] for case in cases if isinstance(case, Case)]
+    assert len(set(named)) == len(named)
     head = "# Made by bench/cases.py."
     given = "\n\n".join([head] + ["\n".join(case.given()) for case in cases]) + "\n"
     wanted = "\n".join("\n".join(case.wanted()) for case in cases) + "\n"

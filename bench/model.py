@@ -8,6 +8,8 @@ import hashlib
 import json
 import re
 
+import config_model
+
 IMAGE = "application/vnd.oci.image.manifest.v1+json"
 INDEX = "application/vnd.oci.image.index.v1+json"
 DOCKER_IMAGE = "application/vnd.docker.distribution.manifest.v2+json"
@@ -397,7 +399,7 @@ class Replay:
 class Ending:
     """What a call gives: the status, the text, and what is kept where a script was run."""
 
-    def __init__(self, status, text, kept=None, faults=(0, 0)):
+    def __init__(self, status, text, kept=None, faults=(0, 0, 0)):
         self.status, self.text, self.faults = status, text, faults
         self.registries = kept.registries if kept else []
         self.journal = kept.journal if kept else []
@@ -435,17 +437,34 @@ def faults_of_input(script, pieces, failing):
     return False
 
 
-def top(words, script, pieces=(), failing_reads=(), failing_writes=()):
+def top(words, script, files={}, pieces=(), failing_reads=(), failing_writes=(), failing_files=()):
     """What a call gives with these words behind the program's name and these devices."""
-    if words != [b"replay"]:
-        ending = Ending(1, USAGE)
-    elif faults_of_input(script, pieces, failing_reads):
-        ending = Ending(3, b"fault input\n", faults=(1, 0))
+    if words == [b"replay"]:
+        ending = read_and_replay(script, pieces, failing_reads)
+    elif len(words) == 2 and words[0] == b"check" and is_path(words[1]):
+        ending = read_and_check(files, words[1], failing_files)
     else:
-        ending = replay(script)
+        ending = Ending(1, USAGE)
     if ending.text and 1 in failing_writes:
-        ending.status, ending.text, ending.faults = 4, b"", (ending.faults[0], 1)
+        ending.status, ending.text, ending.faults = 4, b"", (ending.faults[0], 1, ending.faults[2])
     return ending
+
+
+def is_path(word):
+    return all(part not in (b"", b".", b"..") for part in word.split(b"/"))
+
+
+def read_and_replay(script, pieces, failing_reads):
+    if faults_of_input(script, pieces, failing_reads):
+        return Ending(3, b"fault input\n", faults=(1, 0, 0))
+    return replay(script)
+
+
+def read_and_check(files, path, failing_files):
+    if 1 in failing_files:
+        return Ending(3, b"fault tree\n", faults=(0, 0, 1))
+    text, status = config_model.check(files.get(path))
+    return Ending(status, text)
 
 
 def plain(data):

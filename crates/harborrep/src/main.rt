@@ -5,6 +5,7 @@
 use hr_base::{Bytes, List};
 use hr_cause::{StdSink, StdSource};
 use hr_top::{Ending, top};
+use hr_tree::FileTree;
 use std::process::ExitCode;
 use std::rt::Env;
 use std::{env, io};
@@ -22,11 +23,12 @@ fn main(rt: HostRuntime) -> ExitCode {
     };
     let mut input = StdSource::new(rt.stdin());
     let mut output = StdSink::new(rt.stdout());
+    let mut tree = FileTree::new(rt);
     let mut kept = Ending {
         regs: List::new(alloc),
         journal: List::new(alloc),
     };
-    ExitCode::from(top(alloc, &words, &mut input, &mut output, &mut kept))
+    ExitCode::from(top(alloc, &words, &mut input, &mut output, &mut tree, &mut kept))
 }
 
 // The words behind the program's name.

@@ -1,10 +1,11 @@
 //! A case, as its lines say it.
 
-use crate::numbers::{decoded, numbers, write_each};
+use crate::numbers::{Digits, decoded, numbers, write_counted};
 use crate::tasks::task_of;
 use hr_base::{Bytes, List, Memory};
 use hr_event::TaskSpec;
 use std::alloc::Global;
+use std::mem;
 
 /// What is printed of what a run keeps.
 #[derive(Clone, Copy, Debug, PartialEq, Eq)]
@@ -28,6 +29,9 @@ pub struct Case {
     pub pieces: List<u64>,
     pub failing_reads: List<u64>,
     pub failing_writes: List<u64>,
+    /// Files, each its path and its bytes.
+    pub files: List<(Bytes, Bytes)>,
+    pub failing_files: List<u64>,
     pub shows: Vec<Show>,
     pub tasks: Vec<TaskSpec>,
 }
@@ -41,6 +45,8 @@ impl Case {
             pieces: List::new(alloc),
             failing_reads: List::new(alloc),
             failing_writes: List::new(alloc),
+            files: List::new(alloc),
+            failing_files: List::new(alloc),
             shows: Vec::new(alloc),
             tasks: Vec::new(alloc),
         }
@@ -52,7 +58,9 @@ impl Case {
             "word" => self.add_word(alloc, rest),
             "text" => self.add_text(alloc, rest, b""),
             "line" => self.add_text(alloc, rest, b"\n"),
-            "each" => self.add_each(alloc, rest),
+            "each" => self.add_each(alloc, rest, Digits::Hexadecimal),
+            "count" => self.add_each(alloc, rest, Digits::Decimal),
+            "file" => self.add_file(alloc, rest),
             "show" => self.add_show(rest),
             "task" => self.add_task(alloc, rest),
             _ => self.add_numbers(alloc, kind, rest),
@@ -73,12 +81,22 @@ impl Case {
         Ok(true)
     }
 
-    fn add_each(&mut self, alloc: Global, rest: &str) -> Result<bool, Memory> {
+    fn add_each(&mut self, alloc: Global, rest: &str, digits: Digits) -> Result<bool, Memory> {
         let Some((from, to, text)) = range_of(rest) else {
             return Ok(false);
         };
         let text = decoded(alloc, text)?;
-        write_each(alloc, &mut self.input, from, to, &text)?;
+        for number in from..to {
+            write_counted(alloc, &mut self.input, number, digits, &text)?;
+        }
+        Ok(true)
+    }
+
+    // Makes the input a file, and begins it anew.
+    fn add_file(&mut self, alloc: Global, path: &str) -> Result<bool, Memory> {
+        let path = Bytes::from(decoded(alloc, path)?);
+        let bytes = mem::replace(&mut self.input, Vec::new(alloc));
+        self.files.push((path, Bytes::from(bytes)))?;
         Ok(true)
     }
 
@@ -104,6 +122,7 @@ impl Case {
             "pieces" => self.pieces = list,
             "failing_reads" => self.failing_reads = list,
             "failing_writes" => self.failing_writes = list,
+            "failing_files" => self.failing_files = list,
             _ => return Ok(false),
         }
         Ok(true)

@@ -12,12 +12,23 @@
 //! | `text TEXT` | the input goes on with this text |
 //! | `line TEXT` | the input goes on with this text and a line feed |
 //! | `each FROM TO TEXT` | the input goes on with this text once for each number from FROM to below TO, which stands in the place of each `*` in four hexadecimal digits |
+//! | `count FROM TO TEXT` | the same, with the number in decimal |
+//! | `file PATH` | what the input had so far is a file at this path, and the input begins anew |
 //! | `pieces N ..` | the input gives at most so many bytes at its reads, one after the other |
 //! | `failing_reads N ..` | the reads with these numbers fail, from 1 |
 //! | `failing_writes N ..` | the writes with these numbers fail, from 1 |
+//! | `failing_files N ..` | the calls of the tree with these numbers fail, from 1 |
 //! | `show WHAT` | prints `journal`, `causes`, `tags` or `content` of what is kept |
 //! | `task FROM TO TAG HOW` | a task then copies a tag between registries with what is kept in 1 and 2; HOW is `replace` or `keep` |
 //! | `run` | runs the case |
+//!
+//! Some lines are cases by themselves, and each prints itself with its answer:
+//!
+//! | Line | Asks |
+//! |---|---|
+//! | `fits PATTERN TEXT` | whether the text fits the pattern, or what is wrong with the pattern, and where |
+//! | `digest TEXT` | which digest the text is, or why it is none |
+//! | `hash TEXT` | the digest of these bytes |
 //!
 //! Empty lines and those that begin with `#` are passed over, and of another line it prints `bad`.
 #![tactic(auto)]
@@ -27,11 +38,13 @@ mod digits;
 mod numbers;
 mod outcome;
 mod registries;
+mod single;
 mod steps;
 mod tasks;
 
 use crate::case::Case;
 use crate::outcome::run;
+use crate::single::{digest, fits, hash};
 use hr_base::Memory;
 use std::alloc::Global;
 use std::{io, mem};
@@ -55,6 +68,9 @@ fn take(alloc: Global, case: &mut Case, line: &str) -> Result<String, Memory> {
         "" | "#" => Ok(String::new(alloc)),
         "case" => begin(alloc, case, rest),
         "run" => run(alloc, mem::replace(case, Case::new(alloc))),
+        "fits" => fits(alloc, rest),
+        "digest" => digest(alloc, rest),
+        "hash" => hash(alloc, rest),
         _ if case.add(alloc, kind, rest)? => Ok(String::new(alloc)),
         _ => Ok(format!(in alloc; "bad {line}\n")?),
     }

@@ -28,32 +28,29 @@ pub fn numbers(alloc: Global, text: &str) -> Result<List<u64>, Memory> {
     Ok(list)
 }
 
-/// Puts a text at the end of an input once for each of these numbers.
-pub fn write_each(
-    alloc: Global,
-    input: &mut Vec<u8>,
-    from: u64,
-    to: u64,
-    text: &[u8],
-) -> Result<(), Memory> {
-    for number in from..to {
-        write_counted(alloc, input, number, text)?;
-    }
-    Ok(())
+/// How a number is written.
+#[derive(Clone, Copy, Debug, PartialEq, Eq)]
+pub enum Digits {
+    /// In at least four hexadecimal digits.
+    Hexadecimal,
+    Decimal,
 }
 
-// Puts a text at the end of an input, with a number in the place of each asterisk.
-fn write_counted(
+/// Puts a text at the end of an input, with a number in the place of each asterisk.
+pub fn write_counted(
     alloc: Global,
     input: &mut Vec<u8>,
     number: u64,
+    digits: Digits,
     text: &[u8],
 ) -> Result<(), Memory> {
     for byte in text {
-        if *byte == b'*' {
-            input.extend_from_slice(format!(in alloc; "{number:04x}")?.as_bytes())?;
-        } else {
+        if *byte != b'*' {
             input.push(*byte)?;
+        } else if digits == Digits::Decimal {
+            input.extend_from_slice(format!(in alloc; "{number}")?.as_bytes())?;
+        } else {
+            input.extend_from_slice(format!(in alloc; "{number:04x}")?.as_bytes())?;
         }
     }
     Ok(())

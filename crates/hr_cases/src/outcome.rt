@@ -9,10 +9,19 @@ use hr_base::{Bytes, List, Memory};
 use hr_cause::{Counted, MemSink, MemSource};
 use hr_event::Entry;
 use hr_top::{Ending, top};
+use hr_tree::MemTree;
 use std::alloc::Global;
 
+// What a case hands in.
+#[derive(Drop)]
+struct Devices {
+    source: MemSource,
+    sink: MemSink,
+    tree: MemTree,
+}
+
 /// Runs a case, and answers what is printed of it: the status, the text that was sent with its
-/// length, the faults of the input and of the output, and what is to be shown.
+/// length, the faults of the input, of the output and of the tree, and what is to be shown.
 pub fn run(alloc: Global, case: Case) -> Result<String, Memory> {
     let mut said = String::new(alloc);
     let Case {
@@ -21,12 +30,17 @@ pub fn run(alloc: Global, case: Case) -> Result<String, Memory> {
         pieces,
         failing_reads,
         failing_writes,
+        files,
+        failing_files,
         shows,
         tasks,
     } = case;
-    let mut source = MemSource::new(alloc, Bytes::from(input), pieces, failing_reads)?;
-    let mut sink = MemSink::new(alloc, failing_writes)?;
-    let kept = call(alloc, &mut said, &words, &mut source, &mut sink)?;
+    let mut devices = Devices {
+        source: MemSource::new(alloc, Bytes::from(input), pieces, failing_reads)?,
+        sink: MemSink::new(alloc, failing_writes)?,
+        tree: MemTree::new(alloc, files, failing_files)?,
+    };
+    let kept = call(alloc, &mut said, &words, &mut devices)?;
     for show in shows {
         write_shown(alloc, &mut said, show, &kept)?;
     }
@@ -39,18 +53,19 @@ fn call(
     alloc: Global,
     said: &mut String,
     words: &[Bytes],
-    source: &mut MemSource,
-    sink: &mut MemSink,
+    devices: &mut Devices,
 ) -> Result<Ending, Memory> {
     let mut kept = Ending {
         regs: List::new(alloc),
         journal: List::new(alloc),
     };
-    let status = top(alloc, words, source, sink, &mut kept);
+    let Devices { source, sink, tree } = devices;
+    let status = top(alloc, words, source, sink, tree, &mut kept);
     let sent = sink.sent();
     writeln!(said, "status {status}")?;
     writeln!(said, "sent {} [{}]", sent.len(), Plain(sent))?;
-    writeln!(said, "faults {} {}", source.faults(), sink.faults())?;
+    let (input, output) = (source.faults(), sink.faults());
+    writeln!(said, "faults {input} {output} {}", tree.faults())?;
     Ok(kept)
 }
 

@@ -1,5 +1,5 @@
 -- The body of a message in its framing (RFC 9112, section 6.3).
-use Rattle.std.specs.Prelude.{◌≡◌, ◌≢◌, ◌↔◌, ℕ, zero, suc, ◌+◌, ◌<◌, ◌⊎◌, [], ◌++◌, length, take, Some}
+use Rattle.std.specs.Prelude.{⊤, ◌≡◌, ◌≢◌, ◌↔◌, ℕ, zero, suc, ◌+◌, ◌<◌, ◌⊎◌, [], ◌++◌, length, take, Some}
 use Rattle.hr_base.specs.Bytes.{ByteList}
 use Rattle.hr_body.specs.declared.fault.WireFault.{WireFault}
 use Rattle.hr_body.specs.declared.fault.WireFault.TheVariants.{Failed, Malformed, Ended, TooLong, Memory}
@@ -50,8 +50,8 @@ pub record IsAnnounced (form : Framing) (limit len : ℕ) : Type 0 where
 
 -- why no body in this framing is read off the bytes that follow so many others of the message
 abbrev pub BodyFault : Framing → ℕ → ℕ → ByteList → WireFault → Type 0
-BodyFault form at limit bytes Failed = Unit {0}
-BodyFault form at limit bytes Memory = Unit {0}
+BodyFault form at limit bytes Failed = ⊤
+BodyFault form at limit bytes Memory = ⊤
 BodyFault form at limit bytes (Malformed place) =
     (count : ℕ) × (place ≡ in_word (at + count)) × BeginsNoBody form (take count bytes)
     × (¬ (GivesMore form limit (take count bytes)))

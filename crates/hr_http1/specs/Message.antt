@@ -1,5 +1,5 @@
 -- Whole messages: a head, and a body in the framing that the head says (RFC 9112, section 2.1).
-use Rattle.std.specs.Prelude.{◌≡◌, ℕ, ◌+◌, ◌⊎◌, ◌++◌, length, take, Option, Some}
+use Rattle.std.specs.Prelude.{⊤, ◌≡◌, ℕ, ◌+◌, ◌⊎◌, ◌++◌, length, take, Option, Some}
 use Rattle.httparse.specs.Grammar.{Field, field_value}
 use Rattle.hr_base.specs.Bytes.{ByteList}
 use Rattle.hr_body.specs.declared.fault.WireFault.{WireFault}
@@ -77,8 +77,8 @@ pub record Exceeds {H : Type 0} (kind : Kind H) (limit : ℕ) (bytes : ByteList)
 -- follows, and give no more of a body than its limit; or they hold none and end within a head or a
 -- body; or a head or a body is too long.
 abbrev pub MessageFault : {H : Type 0} → Kind H → ℕ → ByteList → WireFault → Type 0
-MessageFault kind limit bytes Failed = Unit {0}
-MessageFault kind limit bytes Memory = Unit {0}
+MessageFault kind limit bytes Failed = ⊤
+MessageFault kind limit bytes Memory = ⊤
 MessageFault kind limit bytes (Malformed at) =
     (count : ℕ) × (at ≡ in_word count) × BeginsNone kind (take count bytes)
     × (¬ (Exceeds kind limit (take count bytes)))

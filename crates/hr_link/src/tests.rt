@@ -1,3 +1,5 @@
+ghost use Rattle.std.specs.Prelude.{◌≤◌, length};
+
 use crate::{
     Dial, DialFault, Door, MemDial, MemDoor, MemLink, PastLink, TcpDial, TcpDoor, TcpLink,
 };
@@ -5,6 +7,8 @@ use hr_base::{Bytes, List};
 use hr_cause::{Counted, Failed, MemSink, MemSource, Sink, Source, send};
 use std::alloc::Global;
 use std::collections::LinkedList;
+use std::io;
+use std::io::{ErrorKind, Read, Write};
 use std::test::Fail;
 
 fn texts(alloc: Global, items: &[&str]) -> Result<List<Bytes>, Fail> {
@@ -74,6 +78,43 @@ fn a_dial_in_memory_gives_its_replies_in_turn_and_fails_by_its_list(
     Ok(())
 }
 
+#[test]
+fn a_fork_goes_on_from_where_the_dial_was(rt: HostRuntime) -> Result<(), Fail> {
+    let alloc = rt.alloc();
+    let replies = texts(alloc, &["ab", "c"])?;
+    let mut dial = MemDial::new(alloc, replies, numbers(alloc, &[2, 4])?)?;
+    assert_eq!(rt; called(&mut dial, &mut [0; 4]), Ok(2));
+    assert_eq!(rt; called(&mut dial, &mut [0; 4]), Err(DialFault::Failed));
+    let mut other = dial.fork()?;
+    assert_eq!(rt; (dial.faults(), other.faults()), (1, 0));
+    for answer in [Ok(1), Err(DialFault::Failed)] {
+        assert_eq!(rt; called(&mut dial, &mut [0; 4]), answer);
+        assert_eq!(rt; called(&mut other, &mut [0; 4]), answer);
+    }
+    assert!(rt; were_given_back(dial.given_back(), &[("ab", 0), ("c", 0)]));
+    assert!(rt; were_given_back(other.given_back(), &[("ab", 0), ("c", 0)]));
+    assert_eq!(rt; (dial.faults(), other.faults()), (2, 1));
+    Ok(())
+}
+
+#[test]
+fn a_door_in_memory_lets_its_callers_in_and_then_none(rt: HostRuntime) -> Result<(), Fail> {
+    let alloc = rt.alloc();
+    let mut door = MemDoor::new(alloc, texts(alloc, &["GET", "PUT"])?)?;
+    let mut first = door.accept()?.ok_or("the first caller")?;
+    let mut second = door.accept()?.ok_or("the second caller")?;
+    assert_eq!(rt; echo(&mut second, &mut [0; 4]), Ok(3));
+    door.hang_up(second);
+    assert_eq!(rt; echo(&mut first, &mut [0; 4]), Ok(3));
+    door.hang_up(first);
+    assert!(rt; door.accept()?.is_none());
+    assert!(rt; door.accept()?.is_none());
+    assert!(rt; were_given_back(door.given_back(), &[("PUT", 0), ("GET", 0)]));
+    assert_eq!(rt; door.faults(), 0);
+    handed_over(door);
+    Ok(())
+}
+
 // A link that gives two bytes, whose first read and first and third write fail.
 fn faulty_link(alloc: Global) -> Result<MemLink, Fail> {
     let bytes = Bytes::of(alloc, b"ab")?;
@@ -95,6 +136,82 @@ fn a_link_that_failed_is_given_back_with_the_faults_of_both_its_ends(
     assert_eq!(rt; link.faults(), 3);
     door.hang_up(link);
     assert!(rt; were_given_back(door.given_back(), &[("c", 3)]));
+    Ok(())
+}
+
+// A stream that goes wrong: its second read is an error, its first write short, its second an error
+// and its third takes nothing.
+#[derive(Drop)]
+struct Fake {
+    reads: u8,
+    writes: u8,
+}
+
+impl Read for Fake {
+    fn read(&mut self, buf: &mut [u8]) -> io::Result<usize> {
+        self.reads = self.reads.saturating_add(1);
+        match self.reads {
+            1 => Ok(filled(buf, b"abc")),
+            2 => Err(io::Error::from(ErrorKind::ConnectionReset)),
+            3 => Ok(filled(buf, b"d")),
+            _ => Ok(0),
+        }
+    }
+}
+
+fn filled(buf: &mut [u8], bytes: &[u8]) -> usize
+    ensures { result ≤ length buf.new }
+{
+    let count = buf.len().min(bytes.len());
+    buf[..count].copy_from_slice(&bytes[..count]);
+    count
+}
+
+impl Write for Fake {
+    fn write(&mut self, bytes: &[u8]) -> io::Result<usize> {
+        self.writes = self.writes.saturating_add(1);
+        match self.writes {
+            1 => Ok(bytes.len().min(1)),
+            2 => Err(io::Error::from(ErrorKind::BrokenPipe)),
+            3 => Ok(0),
+            _ => Ok(bytes.len()),
+        }
+    }
+
+    fn flush(&mut self) -> io::Result<()> {
+        Ok(())
+    }
+}
+
+#[test]
+fn a_connection_is_read_through_a_buffer_and_each_error_is_one_fault(
+    rt: HostRuntime,
+) -> Result<(), Fail> {
+    let mut link = TcpLink::new(
+        rt.alloc(),
+        Fake {
+            reads: 0,
+            writes: 0,
+        },
+    )?;
+    let mut byte = [0; 1];
+    for (at, wanted, answer, faults) in [
+        (0, b'a', Ok(1), 0),
+        (1, b'b', Ok(1), 0),
+        (2, b'c', Ok(1), 0),
+        (3, b'c', Err(Failed), 1),
+        (4, b'd', Ok(1), 1),
+        (5, b'd', Ok(0), 1),
+    ] {
+        assert_eq!(rt; link.read(&mut []), Ok(0), "read {at}");
+        assert_eq!(rt; link.read(&mut byte), answer, "read {at}");
+        assert_eq!(rt; byte, [wanted], "read {at}");
+        assert_eq!(rt; link.faults(), faults, "read {at}");
+    }
+    for (answer, faults) in [(Ok(1), 1), (Err(Failed), 2), (Err(Failed), 3), (Ok(2), 3)] {
+        assert_eq!(rt; link.write(b"xy"), answer);
+        assert_eq!(rt; link.faults(), faults);
+    }
     Ok(())
 }
 

@@ -2,12 +2,14 @@
 use Rattle.std.proofs.Common.{◌≡◌, ◌<◌, ◌≤◌, ◌⊎◌, inl, inr, ⊎_elim, Option, ℕ, Bool, true, nat_eq, List, [], ◌∷◌, length, get_or, refl, sym, ap, ◌∙◌, subst, arith}
 use Rattle.std.specs.Cmp.Lexicographic.{pointwise}
 use Rattle.std.proofs.lemmas.Slice.Eq.{bytes_eq-Decides}
-use Rattle.hr_top.specs.Answers.{fault_text, long_text, usage_text}
-use Rattle.hr_cause.specs.Stream.{TookFront}
-use Rattle.hr_top.specs.Command.{IsAny, IsStatus, SentFront}
+use Rattle.hr_base.specs.Bytes.{ByteList, Text}
+use Rattle.hr_tree.specs.Tree.{Files}
+use Rattle.hr_top.specs.Answers.{fault_text, long_text, tree_fault_text, usage_text}
+use Rattle.hr_cause.specs.Stream.{Took, TookFront}
+use Rattle.hr_top.specs.Command.{IsAny, IsRefused, IsStatus, Sent, SentFront}
 use Rattle.hr_top.specs.Outcome.{Comes, sent_status_of, text_of, unsent_status_of}
 use Rattle.hr_top.specs.declared.outcome.Outcome.{Outcome}
-use Rattle.hr_top.specs.declared.outcome.Outcome.TheVariants.{Replayed, Usage, Bad, TooLong, Faulted, Memory}
+use Rattle.hr_top.specs.declared.outcome.Outcome.TheVariants.{Replayed, Checked, Usage, Bad, TooLong, Unfit, Faulted, TreeFaulted, Memory}
 use Rattle.hr_replay.specs.Replay.{HasStatus}
 use Rattle.hr_replay.specs.Run.{State}
 use Rattle.hr_replay.specs.declared.session.Ending.{Ending}
@@ -29,26 +31,47 @@ one_word (w ∷ x ∷ more) word v s r some few is view eq = absurd (omega arith
 zero_or_seven : (state : State) (status : ℕ) → HasStatus state status → (status ≡ 0) ⊎ (status ≡ 7)
 zero_or_seven state status has = ⊎_elim (λ done. inl done.1) (λ failed. inr failed.1) has
 
-pub sent_status_is : (outcome : Outcome) (words : List (List ℕ)) (before now : Option (List ℕ)) (faults faults' : ℕ) (kept : Ending) → Comes outcome words before now faults faults' kept
+pub sent_status_is : (outcome : Outcome) (words : List Text) (before now : Option ByteList) (files : Option Files) (faults faults' tree tree' : ℕ) (kept : Ending) → Comes outcome words before now files faults faults' tree tree' kept
     → IsStatus (sent_status_of outcome)
-sent_status_is (Replayed text status) words before now faults faults' kept comes =
+sent_status_is (Replayed text status) words before now files faults faults' tree tree' kept comes =
     ⊎_elim
     (λ zero. subst IsStatus (sym zero) (0, omega arith, refl))
     (λ seven. subst IsStatus (sym seven) (6, omega arith, refl))
     (zero_or_seven comes.0.run.state status comes.0.run.ends)
-sent_status_is Usage words before now faults faults' kept comes = (1, omega arith, refl)
-sent_status_is (Bad text) words before now faults faults' kept comes = (2, omega arith, refl)
-sent_status_is TooLong words before now faults faults' kept comes = (2, omega arith, refl)
-sent_status_is Faulted words before now faults faults' kept comes = (3, omega arith, refl)
-sent_status_is Memory words before now faults faults' kept comes = (5, omega arith, refl)
+sent_status_is (Checked text) words before now files faults faults' tree tree' kept comes = (0, omega arith, refl)
+sent_status_is Usage words before now files faults faults' tree tree' kept comes = (1, omega arith, refl)
+sent_status_is (Bad text) words before now files faults faults' tree tree' kept comes = (2, omega arith, refl)
+sent_status_is TooLong words before now files faults faults' tree tree' kept comes = (2, omega arith, refl)
+sent_status_is (Unfit text) words before now files faults faults' tree tree' kept comes = (2, omega arith, refl)
+sent_status_is Faulted words before now files faults faults' tree tree' kept comes = (3, omega arith, refl)
+sent_status_is TreeFaulted words before now files faults faults' tree tree' kept comes = (3, omega arith, refl)
+sent_status_is Memory words before now files faults faults' tree tree' kept comes = (5, omega arith, refl)
+
+-- a refusal was sent, where the status says so
+pub refused_is : (outcome : Outcome) (words : List Text) (before now : Option ByteList) (files : Option Files) (faults faults' tree tree' : ℕ) (kept : Ending) (sent sent' : Option ByteList)
+    → Comes outcome words before now files faults faults' tree tree' kept → Took sent (text_of outcome) sent' → sent_status_of outcome ≡ 2
+    → Sent (IsRefused words before now files kept) sent sent'
+refused_is (Bad text) words before now files faults faults' tree tree' kept sent sent' comes took two = (text, inl comes.0, took)
+refused_is TooLong words before now files faults faults' tree tree' kept sent sent' comes took two = (long_text, inl comes.0, took)
+refused_is (Unfit text) words before now files faults faults' tree tree' kept sent sent' comes took two = (text, inr comes.0, took)
+refused_is (Replayed text status) words before now files faults faults' tree tree' kept sent sent' comes took two =
+    absurd (⊎_elim (λ zero. omega arith) (λ seven. omega arith) (zero_or_seven comes.0.run.state status comes.0.run.ends))
+refused_is (Checked text) words before now files faults faults' tree tree' kept sent sent' comes took two = absurd (omega arith)
+refused_is Usage words before now files faults faults' tree tree' kept sent sent' comes took two = absurd (omega arith)
+refused_is Faulted words before now files faults faults' tree tree' kept sent sent' comes took two = absurd (omega arith)
+refused_is TreeFaulted words before now files faults faults' tree tree' kept sent sent' comes took two = absurd (omega arith)
+refused_is Memory words before now files faults faults' tree tree' kept sent sent' comes took two = absurd (omega arith)
 
 -- a front of the outcome's text was sent, where the status says so
-pub cut_off_is : (outcome : Outcome) (words : List (List ℕ)) (before now : Option (List ℕ)) (faults faults' : ℕ) (kept : Ending) (sent sent' : Option (List ℕ))
-    → Comes outcome words before now faults faults' kept → TookFront sent (text_of outcome) sent' → unsent_status_of outcome ≡ 4
-    → SentFront (IsAny words before now faults faults' kept) sent sent'
-cut_off_is (Replayed text status) words before now faults faults' kept sent sent' comes front four = (text, inl (status, comes.0), front)
-cut_off_is Usage words before now faults faults' kept sent sent' comes front four = (usage_text, inr (inl comes.0), front)
-cut_off_is (Bad text) words before now faults faults' kept sent sent' comes front four = (text, inr (inr (inl comes.0)), front)
-cut_off_is TooLong words before now faults faults' kept sent sent' comes front four = (long_text, inr (inr (inl comes.0)), front)
-cut_off_is Faulted words before now faults faults' kept sent sent' comes front four = (fault_text, inr (inr (inr comes)), front)
-cut_off_is Memory words before now faults faults' kept sent sent' comes front four = absurd (omega arith)
+pub cut_off_is : (outcome : Outcome) (words : List Text) (before now : Option ByteList) (files : Option Files) (faults faults' tree tree' : ℕ) (kept : Ending) (sent sent' : Option ByteList)
+    → Comes outcome words before now files faults faults' tree tree' kept → TookFront sent (text_of outcome) sent' → unsent_status_of outcome ≡ 4
+    → SentFront (IsAny words before now files faults faults' tree tree' kept) sent sent'
+cut_off_is (Replayed text status) words before now files faults faults' tree tree' kept sent sent' comes front four = (text, inl (status, inl comes.0), front)
+cut_off_is (Checked text) words before now files faults faults' tree tree' kept sent sent' comes front four = (text, inl (0, inr (refl, comes.0)), front)
+cut_off_is Usage words before now files faults faults' tree tree' kept sent sent' comes front four = (usage_text, inr (inl comes.0), front)
+cut_off_is (Bad text) words before now files faults faults' tree tree' kept sent sent' comes front four = (text, inr (inr (inl (inl comes.0))), front)
+cut_off_is TooLong words before now files faults faults' tree tree' kept sent sent' comes front four = (long_text, inr (inr (inl (inl comes.0))), front)
+cut_off_is (Unfit text) words before now files faults faults' tree tree' kept sent sent' comes front four = (text, inr (inr (inl (inr comes.0))), front)
+cut_off_is Faulted words before now files faults faults' tree tree' kept sent sent' comes front four = (fault_text, inr (inr (inr (inl comes.0))), front)
+cut_off_is TreeFaulted words before now files faults faults' tree tree' kept sent sent' comes front four = (tree_fault_text, inr (inr (inr (inr comes.0))), front)
+cut_off_is Memory words before now files faults faults' tree tree' kept sent sent' comes front four = absurd (omega arith)

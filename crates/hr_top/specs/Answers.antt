@@ -15,6 +15,10 @@ long_text = line (codes "line 0 long")
 abbrev pub fault_text : Text
 fault_text = line (codes "fault input")
 
+-- what is said where the tree failed
+abbrev pub tree_fault_text : Text
+tree_fault_text = line (codes "fault tree")
+
 -- what is said for want of memory
 abbrev pub memory_text : Text
 memory_text = line (codes "memory")

@@ -2,9 +2,11 @@
 //! it leaves come out. Start with `command`.
 #![tactic(auto)]
 
+mod checking;
 mod command;
 mod input;
 mod outcome;
+mod wording;
 
 pub use command::top;
 pub use hr_replay::{Ending, RegHeld};

@@ -8,14 +8,20 @@ use hr_base::Bytes;
 pub enum Outcome {
     /// The script was run.
     Replayed { text: Bytes, status: u8 },
+    /// The file is a configuration.
+    Checked { text: Bytes },
     /// The words name no command.
     Usage,
     /// A line of the script is bad.
     Bad { text: Bytes },
     /// The input is longer than a script may be.
     TooLong,
+    /// No file is there, or the file is no configuration.
+    Unfit { text: Bytes },
     /// The input failed.
     Faulted,
+    /// The tree failed.
+    TreeFaulted,
     /// There was no room.
     Memory,
 }
@@ -28,11 +34,15 @@ impl Outcome {
         ensures { result.now ≡ text_of self.now }
     {
         match self {
-            Outcome::Replayed { text, .. } | Outcome::Bad { text } => text.view(),
+            Outcome::Replayed { text, .. }
+            | Outcome::Checked { text }
+            | Outcome::Bad { text }
+            | Outcome::Unfit { text } => text.view(),
             Outcome::Usage =>
                 b"usage: harborrep replay | check FILE | plan FILE P | once FILE P | gen START REPOS | run FILE WORKERS | serve FILE WORKERS PORT\n",
             Outcome::TooLong => b"line 0 long\n",
             Outcome::Faulted => b"fault input\n",
+            Outcome::TreeFaulted => b"fault tree\n",
             Outcome::Memory => b"memory\n",
         }
     }
@@ -43,9 +53,10 @@ impl Outcome {
     {
         match self {
             Outcome::Replayed { status, .. } => *status,
+            Outcome::Checked { .. } => 0,
             Outcome::Usage => 1,
-            Outcome::Bad { .. } | Outcome::TooLong => 2,
-            Outcome::Faulted => 3,
+            Outcome::Bad { .. } | Outcome::TooLong | Outcome::Unfit { .. } => 2,
+            Outcome::Faulted | Outcome::TreeFaulted => 3,
             Outcome::Memory => 5,
         }
     }

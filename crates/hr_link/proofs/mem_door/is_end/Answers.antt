@@ -1,4 +1,4 @@
-use Rattle.std.proofs.Common.{◌≡◌, ◌≤◌, [], length, drop, arith}
+use Rattle.std.proofs.Common.{◌≤◌, length, arith}
 use Rattle.std.proofs.lemmas.List.{drop_all}
 use Rattle.hr_link.proofs.PlaceLemmas.{end_behind}
 use Rattle.hr_link.proofs.mem_door.is_end.Goals as goal
