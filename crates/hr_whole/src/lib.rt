@@ -1,0 +1,8 @@
+//! What can be copied is copied: where each tag of a task stands whole at its source, and nothing
+//! fails, a revision ends with success, or by want of memory. It is all definitions and laws; start
+//! with `specs/Whole.antt`.
+#![tactic(auto)]
+
+mod laws;
+
+pub use laws::whole_tags_show_no_cause;
