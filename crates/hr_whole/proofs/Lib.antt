@@ -1,2 +1,4 @@
+mod AskedLemmas
 mod GraphLemmas
+mod LineLemmas
 mod NeverLemmas
