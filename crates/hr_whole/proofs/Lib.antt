@@ -2,3 +2,5 @@ mod AskedLemmas
 mod GraphLemmas
 mod LineLemmas
 mod NeverLemmas
+mod RunLemmas
+mod StillLemmas
