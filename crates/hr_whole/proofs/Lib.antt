@@ -1,5 +1,7 @@
 mod AskedLemmas
+mod CopiedLemmas
 mod GraphLemmas
+mod GrowLemmas
 mod LineLemmas
 mod NeverLemmas
 mod RunLemmas

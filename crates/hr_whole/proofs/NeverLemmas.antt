@@ -47,7 +47,7 @@ own_manifest : (c : Content) (repo : RepoName) (d : Digest) (m : Fetched) → Ho
 own_manifest c repo d m honest there =
     subst (λ (o : Option Fetched). IfSome o (λ x. digest_of x.bytes ≡ d)) there (honest.manifests repo d)
 
-own_blob : (c : Content) (repo : RepoName) (d : Digest) (bytes : ByteList) → Honest c → blob_at c repo d ≡ Some bytes
+pub own_blob : (c : Content) (repo : RepoName) (d : Digest) (bytes : ByteList) → Honest c → blob_at c repo d ≡ Some bytes
     → digest_of bytes ≡ d
 own_blob c repo d bytes honest there =
     subst (λ (o : Option ByteList). IfSome o (λ x. digest_of x ≡ d)) there (honest.blobs repo d)

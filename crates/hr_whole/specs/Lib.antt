@@ -1,3 +1,4 @@
 pub mod Calm
+pub mod Copied
 pub mod Said
 pub mod Whole

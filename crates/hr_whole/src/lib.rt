@@ -5,4 +5,7 @@
 
 mod laws;
 
-pub use laws::whole_tags_show_no_cause;
+pub use laws::{
+    connections_that_cannot_fail_do_not, journals_say_what_quiet_sources_have,
+    what_can_be_copied_is_copied, whole_tags_show_no_cause,
+};
