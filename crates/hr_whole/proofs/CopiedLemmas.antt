@@ -1,37 +1,31 @@
 -- What can be copied is copied, or want of memory ends it.
-use Rattle.std.proofs.Common.{◌≡◌, inl, inr, refl, sym, ap, subst, ◌∙◌, ℕ, true, List, [], ◌∷◌, length}
+use Rattle.std.proofs.Common.{◌≡◌, refl, sym, ap, subst, ◌∙◌, ℕ, true, List, length}
 use Rattle.std.proofs.lemmas.Bool.{eq-eqb}
 use Rattle.std.specs.Prelude.{Option, Some, None, IfSome, IsSome, Contains, Bool, if◌then◌else◌, nat_eq, option_and_then, option_map}
-use Rattle.std.specs.List.{AllByRecursion}
 use Rattle.hr_base.specs.Bytes.{ByteList}
 use Rattle.hr_base.specs.declared.number.JobNo.{JobNo}
 use Rattle.hr_base.specs.declared.status.Status.{Status}
-use Rattle.hr_digest.specs.Digest.{digest_of}
 use Rattle.hr_digest.specs.declared.digest.Digest.{Digest}
 use Rattle.hr_name.specs.Name.{RepoName}
-use Rattle.hr_name.specs.Tag.{TagName}
 use Rattle.hr_event.specs.declared.cause.Cause.{Cause}
 use Rattle.hr_event.specs.declared.entry.Entry.{Entry}
 use Rattle.hr_event.specs.declared.entry.What.{What}
 use Rattle.hr_event.specs.declared.entry.What.TheVariants as what
-use Rattle.hr_event.specs.declared.reference.Fetched.{Fetched}
-use Rattle.hr_event.specs.declared.reference.Reference.TheVariants as by
 use Rattle.hr_manifest.specs.declared.child.ChildKind.TheVariants as kind
-use Rattle.hr_adapter.specs.Content.{Content, blob_at, fetch_at, manifest_at}
+use Rattle.hr_adapter.specs.Content.{Content, blob_at}
 use Rattle.hr_adapter.specs.Reg.{Reg}
 use Rattle.hr_journal.specs.OneEach.{Measures}
-use Rattle.hr_journal.specs.Origin.{HasText, Holds, IsText, Origin, Source, WasThere}
+use Rattle.hr_journal.specs.Origin.{HasText, Holds, IsText, Source, WasThere}
 use Rattle.hr_journal.specs.Promise.{Promise}
-use Rattle.hr_journal.specs.Says.{Placement, placed}
+use Rattle.hr_journal.specs.Says.{placed}
 use Rattle.hr_journal.proofs.PromiseLaws.{lengths_are_of_texts, was_there}
 use Rattle.hr_line.specs.Causes.{IsCauseShown}
-use Rattle.hr_line.specs.Evidence.{MeasuredFor, ReachedBy, Says}
+use Rattle.hr_line.specs.Evidence.{MeasuredFor, Says}
 use Rattle.hr_line.specs.Finals.{EndHolds}
 use Rattle.hr_line.specs.Orderly.{admitted_at, place_at, placement}
 use Rattle.hr_line.specs.Sources.{AreSourced, origin, source_of, source_seen}
 use Rattle.hr_line.specs.State.{State, link_at}
 use Rattle.hr_line.specs.declared.held.Admitted.{Admitted}
-use Rattle.hr_whole.specs.Calm.{IsCalm}
 use Rattle.hr_whole.specs.Copied.{BothUnfailing, CanBeCopied, EndsWell, NoTwoTexts, NoneFailed}
 use Rattle.hr_whole.specs.Said.{AreSaid, IsFromSource, IsSaid}
 use Rattle.hr_whole.proofs.GrowLemmas.{IsWithin, ends_grow, reached_grow, said_of}

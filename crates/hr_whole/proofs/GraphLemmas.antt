@@ -1,5 +1,5 @@
 -- What is reached in a graph that stands whole: it is there, with its size, and not too deep.
-use Rattle.std.proofs.Common.{◌≡◌, ◌<◌, refl, sym, ap, subst, ◌∙◌, ℕ, zero, suc, ◌+◌, List, length, arith}
+use Rattle.std.proofs.Common.{◌≡◌, refl, sym, ap, subst, ◌∙◌, ℕ, zero, suc, ◌+◌, List, length, arith}
 use Rattle.std.specs.Prelude.{Option, Some, None, option_map, ⊤}
 use Rattle.std.specs.List.{AllByRecursion}
 use Rattle.hr_digest.specs.declared.digest.Digest.{Digest}
@@ -13,7 +13,6 @@ use Rattle.hr_manifest.specs.declared.child.ChildKind.{ChildKind}
 use Rattle.hr_manifest.specs.declared.child.ChildKind.TheVariants as kind
 use Rattle.hr_manifest.proofs.ReadingLaws.{reads_once}
 use Rattle.hr_graph.specs.Reached.{AreTooMany, HasLen, IsReachable, IsTooDeep, IsUnsized, ListsChild, Reached}
-use Rattle.hr_graph.specs.declared.opened.TheConstants.{DEPTH_LIMIT}
 use Rattle.hr_graph.proofs.ReachedLaws.{reached_more}
 use Rattle.hr_adapter.specs.Content.{Content, blob_at, manifest_at}
 use Rattle.hr_journal.specs.Graph.{Closed, Graph, Stands, StandsWhole}

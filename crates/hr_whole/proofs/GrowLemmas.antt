@@ -1,5 +1,5 @@
 -- What older entries show is shown by the whole journal.
-use Rattle.std.proofs.Common.{◌≡◌, inl, inr, refl, subst, ℕ, List, [], ◌∷◌, arith}
+use Rattle.std.proofs.Common.{◌≡◌, inl, inr, subst, List, [], ◌∷◌, arith}
 use Rattle.std.specs.Prelude.{Some, Contains, ⊤}
 use Rattle.hr_digest.specs.declared.digest.Digest.{Digest}
 use Rattle.hr_event.specs.declared.cause.Cause.{Cause}
@@ -19,7 +19,7 @@ use Rattle.hr_line.specs.Orderly.{admitted_at}
 use Rattle.hr_line.specs.State.{State}
 use Rattle.hr_line.specs.declared.held.Admitted.{Admitted}
 use Rattle.hr_whole.specs.Calm.{IsCalm}
-use Rattle.hr_whole.specs.Said.{AreSaid, EndsFor, IsAskedFor, IsMissing, IsSaid, IsTooLong}
+use Rattle.hr_whole.specs.Said.{AreSaid, EndsFor, IsAskedFor, IsMissing, IsSaid}
 
 -- all entries of one journal are among those of another
 abbrev pub IsWithin : List Entry → List Entry → Type 0

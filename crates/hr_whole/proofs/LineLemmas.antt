@@ -1,6 +1,6 @@
 -- What each line says of a quiet source, and what ends it there.
-use Rattle.std.proofs.Common.{◌≡◌, ◌<◌, ◌≤◌, inl, inr, refl, sym, ap, subst, ◌∙◌, ℕ, Bool, true, false, List, [], ◌∷◌, ◌++◌, length, arith}
-use Rattle.std.specs.Prelude.{Option, Some, None, IfSome, IsTrue, Result, Ok, Err, IsErrOf, Contains, map, option_map, ⊤, ◌≢◌}
+use Rattle.std.proofs.Common.{◌≡◌, ◌≤◌, refl, sym, ap, subst, ◌∙◌, ℕ, Bool, true, false, List, [], ◌∷◌, ◌++◌, length, arith}
+use Rattle.std.specs.Prelude.{Option, Some, None, IfSome, IsTrue, Result, Ok, Err, Contains, map, option_map, ⊤, ◌≢◌}
 use Rattle.hr_base.specs.declared.limit.TheConstants.{MANIFEST_LIMIT}
 use Rattle.hr_base.specs.declared.number.RegNo.{RegNo}
 use Rattle.hr_digest.specs.Digest.{digest_of}
@@ -18,19 +18,17 @@ use Rattle.hr_event.specs.declared.reference.Fetched.{Fetched}
 use Rattle.hr_event.specs.declared.reference.Reference.{Reference}
 use Rattle.hr_event.specs.declared.reference.Reference.TheVariants as by
 use Rattle.hr_manifest.specs.Manifest.{Parts}
-use Rattle.hr_manifest.specs.Reading.{Refuses}
 use Rattle.hr_manifest.specs.declared.child.ChildKind.TheVariants as kind
 use Rattle.hr_manifest.specs.declared.refusal.Unreadable.{Unreadable}
 use Rattle.hr_manifest.specs.declared.refusal.Unreadable.TheVariants as form
 use Rattle.hr_manifest.proofs.ReadingLaws.{refuses_long}
-use Rattle.hr_graph.specs.Walk.{View, newest_manifest}
-use Rattle.hr_graph.specs.declared.need.Given.{Given}
+use Rattle.hr_graph.specs.Walk.{View}
 use Rattle.hr_graph.specs.declared.need.Need.{Need}
 use Rattle.hr_graph.specs.declared.need.Need.TheVariants as need
 use Rattle.hr_graph.specs.declared.need.WalkRefused.{WalkRefused}
 use Rattle.hr_graph.specs.declared.need.WalkRefused.TheVariants as walk
 use Rattle.hr_adapter.specs.Calls.{Asks, Fetches, FindsBlob, Heads, PutsManifest}
-use Rattle.hr_adapter.specs.Content.{Content, blob_at, fetch_at, manifest_at}
+use Rattle.hr_adapter.specs.Content.{Content, blob_at, fetch_at}
 use Rattle.hr_adapter.specs.Reg.{IsSound, Reg}
 use Rattle.hr_adapter.specs.declared.fault.RegFault.{RegFault}
 use Rattle.hr_adapter.specs.declared.fault.RegFault.TheVariants as why
@@ -39,7 +37,7 @@ use Rattle.hr_blob.specs.Copies.{Ends}
 use Rattle.hr_blob.specs.declared.outcome.Failing.{Failing}
 use Rattle.hr_blob.specs.declared.outcome.NotCopied.{NotCopied}
 use Rattle.hr_blob.specs.declared.outcome.NotCopied.TheVariants as copy
-use Rattle.hr_line.specs.Cause.{failing_cause, fault_cause, form_cause, walk_cause}
+use Rattle.hr_line.specs.Cause.{failing_cause, fault_cause, form_cause}
 use Rattle.hr_line.specs.Evidence.{ReachedBy}
 use Rattle.hr_line.specs.Kept.{WorkSeen}
 use Rattle.hr_line.specs.Line.{BlobAsked, ChildCompared, ChildFetched, ChildGoes, ChildStored, CopyEnds, EndsBy, IsReading, LineEnd, LookEnds, LookFound, RootDecided, RootGoes, RootLooked, RootStored, TagFetched, decide, entry_of, walked}

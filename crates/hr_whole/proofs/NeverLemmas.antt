@@ -1,6 +1,6 @@
 -- No cause but want of memory is shown of tags that are whole.
-use Rattle.std.proofs.Common.{◌≡◌, ◌⊎◌, ◌<◌, ◌≤◌, inl, inr, refl, sym, ap, subst, ◌∙◌, ℕ, zero, suc, List, length, arith}
-use Rattle.std.specs.Prelude.{Option, Some, None, IfSome, Result, Ok, Err, Contains, option_and_then, option_map}
+use Rattle.std.proofs.Common.{◌≡◌, inl, inr, refl, sym, ap, subst, ◌∙◌, ℕ, List, arith}
+use Rattle.std.specs.Prelude.{Option, Some, None, IfSome, Ok, Err, Contains, option_and_then, option_map}
 use Rattle.std.specs.List.{AllByRecursion}
 use Rattle.hr_base.specs.Bytes.{ByteList}
 use Rattle.hr_base.specs.declared.number.RegNo.{RegNo}
@@ -12,7 +12,6 @@ use Rattle.hr_name.specs.Tag.{TagName}
 use Rattle.hr_event.specs.declared.cause.Cause.{Cause}
 use Rattle.hr_event.specs.declared.cause.Cause.TheVariants as cause
 use Rattle.hr_event.specs.declared.entry.Entry.{Entry}
-use Rattle.hr_event.specs.declared.entry.What.TheVariants as what
 use Rattle.hr_event.specs.declared.reference.Fetched.{Fetched}
 use Rattle.hr_event.specs.declared.reference.Reference.TheVariants as by
 use Rattle.hr_manifest.specs.Manifest.{Parts}
@@ -22,13 +21,12 @@ use Rattle.hr_manifest.specs.declared.child.ChildKind.{ChildKind}
 use Rattle.hr_manifest.specs.declared.child.ChildKind.TheVariants as kind
 use Rattle.hr_manifest.specs.declared.refusal.Unreadable.{Unreadable}
 use Rattle.hr_manifest.proofs.ReadingLaws.{reads_short}
-use Rattle.hr_graph.specs.Reached.{IsReachable, Reached}
 use Rattle.hr_adapter.specs.Content.{Content, Honest, blob_at, fetch_at, manifest_at, tag_at}
 use Rattle.hr_adapter.specs.Reg.{Reg}
 use Rattle.hr_journal.specs.Graph.{StandsWhole}
 use Rattle.hr_journal.proofs.ListLaws.{each_has}
 use Rattle.hr_line.specs.Destination.{stored_of}
-use Rattle.hr_line.specs.Evidence.{ChildrenShown, DiffersShown, FaultShown, IsRootOf, IsShown, MeasuredFor, PairsShown, ReachedBy, ReadFor, ReadSome, Says, SizeShown, UnreadableShown, digest_at}
+use Rattle.hr_line.specs.Evidence.{DiffersShown, FaultShown, IsRootOf, IsShown, MeasuredFor, ReachedBy, ReadFor, ReadSome, SizeShown, digest_at}
 use Rattle.hr_line.specs.declared.held.Admitted.{Admitted}
 use Rattle.hr_whole.specs.Said.{EndsFor, IsAskedFor, IsFromSource, IsMissing, IsTooLong}
 use Rattle.hr_whole.specs.Whole.{HasFewPairs, IsHere, TagIsWhole}

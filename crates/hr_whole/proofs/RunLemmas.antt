@@ -1,7 +1,7 @@
 -- What holds of a lane after every run: what its journal says is what quiet sources have.
-use Rattle.std.proofs.Common.{◌≡◌, ◌⊎◌, inl, inr, refl, sym, ap, subst, ◌∙◌, ℕ, Bool, true, false, ◌&&◌, List, [], ◌∷◌, ◌++◌}
+use Rattle.std.proofs.Common.{◌≡◌, inl, inr, refl, sym, ap, subst, ◌∙◌, ℕ, Bool, true, false, ◌&&◌, List, [], ◌∷◌, ◌++◌}
 use Rattle.std.proofs.lemmas.Bool.{eqb-true}
-use Rattle.std.specs.Prelude.{Option, Some, None, IfSome, IsSome, IsTrue, Result, Ok, Err, Contains, if◌then◌else◌, map, nat_eq}
+use Rattle.std.specs.Prelude.{Option, Some, None, IfSome, IsSome, IsTrue, Result, Ok, Err, if◌then◌else◌, map, nat_eq}
 use Rattle.std.specs.List.{AllByRecursion}
 use Rattle.std.specs.Option.{is_some}
 use Rattle.hr_base.specs.declared.number.JobNo.{JobNo}
@@ -9,22 +9,21 @@ use Rattle.hr_base.specs.declared.number.RegNo.{RegNo}
 use Rattle.hr_base.specs.declared.status.Mark.{Mark}
 use Rattle.hr_base.specs.declared.status.Status.{Status}
 use Rattle.hr_event.specs.declared.cause.Cause.{Cause}
-use Rattle.hr_event.specs.declared.cause.Cause.TheVariants as cause
 use Rattle.hr_event.specs.declared.entry.Entry.{Entry}
 use Rattle.hr_event.specs.declared.entry.What.{What}
 use Rattle.hr_event.specs.declared.entry.What.TheVariants as what
 use Rattle.hr_adapter.specs.Content.{Content, Honest}
-use Rattle.hr_adapter.specs.Reg.{IsSound, Reg}
+use Rattle.hr_adapter.specs.Reg.{Reg}
 use Rattle.hr_journal.proofs.ListLaws.{each_has}
-use Rattle.hr_line.specs.Admission.{Admits, Begins}
+use Rattle.hr_line.specs.Admission.{Admits}
 use Rattle.hr_line.specs.Causes.{AreCausesShown}
 use Rattle.hr_line.specs.Destination.{AreKept, IsKept}
 use Rattle.hr_line.specs.Kept.{WorkSeen}
 use Rattle.hr_line.specs.Line.{LineEnd, entry_of}
 use Rattle.hr_line.specs.Orderly.{IsHeldAs, IsNew, IsOrderly, admitted_at}
 use Rattle.hr_line.specs.Run.{Call, Happens, IsOpening, Runs}
-use Rattle.hr_line.specs.State.{AreSound, Link, State, held_at, link_at}
-use Rattle.hr_line.specs.Step.{Closes, ComesToEnd, DoesLine, Drops, Ends, Step, next_tag}
+use Rattle.hr_line.specs.State.{AreSound, Link, State, held_at}
+use Rattle.hr_line.specs.Step.{Closes, ComesToEnd, DoesLine, Drops, Ends, Step}
 use Rattle.hr_line.specs.declared.answer.Admit.{Admit}
 use Rattle.hr_line.specs.declared.answer.Admit.TheVariants as admit
 use Rattle.hr_line.specs.declared.answer.Stepped.{Stepped}
@@ -34,7 +33,7 @@ use Rattle.hr_line.specs.declared.held.Held.{Held}
 use Rattle.hr_whole.specs.Calm.{IsCalm}
 use Rattle.hr_whole.specs.Said.{AreSaid, EndsFor, IsSaid}
 use Rattle.hr_whole.proofs.AskedLemmas.{get_contains}
-use Rattle.hr_whole.proofs.LineLemmas.{EndSaid, LineSaid, MoreSaid, line_said}
+use Rattle.hr_whole.proofs.LineLemmas.{LineSaid, MoreSaid, line_said}
 use Rattle.hr_whole.proofs.StillLemmas.{GoOn, StaysStill, StaysSure, go_line, go_same, go_then, line_still, line_sure, link_sound, still_itself, still_then, sure_itself, sure_then}
 
 -- the laws of lanes that a run goes by

@@ -1,7 +1,7 @@
 -- A source that is quiet stays as it is, and a connection that can't fail doesn't, line by line.
 use Rattle.std.proofs.Common.{◌≡◌, ◌⊎◌, inl, inr, refl, sym, ap, subst, ◌∙◌, ℕ, Bool, true, false, List, [], ◌∷◌}
-use Rattle.std.proofs.lemmas.Bool.{eq-eqb, eqb-false, eqb-true}
-use Rattle.std.specs.Prelude.{◌≢◌, Option, Some, None, IfSome, IsTrue, Result, Ok, Err, if◌then◌else◌, nat_eq, ⊤}
+use Rattle.std.proofs.lemmas.Bool.{eqb-false, eqb-true}
+use Rattle.std.specs.Prelude.{◌≢◌, Option, Some, None, IfSome, IsTrue, Result, Ok, Err, if◌then◌else◌, nat_eq}
 use Rattle.hr_base.specs.declared.number.RegNo.{RegNo}
 use Rattle.hr_digest.specs.Order.{digest_eq}
 use Rattle.hr_digest.specs.declared.digest.Digest.{Digest}

@@ -1,5 +1,5 @@
 -- When a task can be copied, and how its revision then ends. (Our own.)
-use Rattle.std.specs.Prelude.{◌≡◌, ◌⊎◌, IsTrue, List, Option, Some, None, IfSome}
+use Rattle.std.specs.Prelude.{◌≡◌, IsTrue, List, Option, Some, None, IfSome}
 use Rattle.std.specs.List.{AllByRecursion}
 use Rattle.hr_base.specs.declared.status.Status.{Status}
 use Rattle.hr_base.specs.declared.status.Status.TheVariants.{Error, Success}

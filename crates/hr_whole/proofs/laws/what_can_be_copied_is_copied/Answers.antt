@@ -1,5 +1,5 @@
-use Rattle.std.proofs.Common.{◌≡◌, ◌∙◌, ap}
-use Rattle.std.specs.Prelude.{Option, Some}
+use Rattle.std.proofs.Common.{◌∙◌, ap}
+use Rattle.std.specs.Prelude.{Option}
 use Rattle.hr_event.specs.declared.cause.Cause.{Cause}
 use Rattle.hr_event.specs.declared.entry.What.TheVariants.{Ended}
 use Rattle.hr_whole.proofs.CopiedLemmas.{copied, ends_well}
