@@ -1,10 +1,13 @@
 -- When a tag can be copied: the graph of its manifest stands at the source whole, and within the
 -- limits of a walk. (Our own, over OCI Image 1.1, "Image Manifest" and "Image Index".)
-use Rattle.std.specs.Prelude.{◌≡◌, Some}
+use Rattle.std.specs.Prelude.{◌≡◌, ⊤, List, Contains, Some}
+use Rattle.std.specs.List.{AllByRecursion}
 use Rattle.hr_digest.specs.declared.digest.Digest.{Digest}
 use Rattle.hr_name.specs.Name.{RepoName}
 use Rattle.hr_name.specs.Tag.{TagName}
 use Rattle.hr_manifest.specs.Manifest.{Parts}
+use Rattle.hr_manifest.specs.declared.child.ChildKind.{ChildKind}
+use Rattle.hr_manifest.specs.declared.child.ChildKind.TheVariants as kind
 use Rattle.hr_graph.specs.Reached.{AreTooMany}
 use Rattle.hr_adapter.specs.Content.{Content, manifest_at, tag_at}
 use Rattle.hr_journal.specs.Graph.{StandsWhole}
@@ -27,3 +30,18 @@ pub record TagIsWhole (c : Content) (repo : RepoName) (tag : TagName) : Type 0 w
   pub named : tag_at c repo tag ≡ Some digest
   pub whole : StandsWhole c repo digest
   pub few : HasFewPairs c repo digest
+
+-- what a manifest lists is among these blobs and manifests, which are given by their digests; foreign
+-- layers don't count
+abbrev pub IsAmong : List Digest → List Digest → ChildKind → Digest → Type 0
+IsAmong blobs manifests kind.Manifest d = Contains manifests d
+IsAmong blobs manifests kind.Blob d = Contains blobs d
+IsAmong blobs manifests kind.Foreign d = ⊤
+
+-- these blobs and manifests are all of a graph, and maybe more: its root, and all that each of the
+-- manifests lists
+pub record AreAllOf (c : Content) (repo : RepoName) (root : Digest) (blobs manifests : List Digest)
+    : Type 0 where
+  pub first : Contains manifests root
+  pub each : (d : Digest) (parts : Parts) → Contains manifests d → IsHere c repo d parts
+      → AllByRecursion (λ kid. IsAmong blobs manifests kid.kind kid.digest) parts.children

@@ -1,10 +1,13 @@
 //! Laws of tasks that can be copied. (Our own.)
-ghost use Rattle.std.specs.Prelude.{◌≡◌, Contains, List, Option, Some};
+ghost use Rattle.std.specs.Prelude.{◌≡◌, ◌≤◌, ◌+◌, Contains, length, List, Option, Some};
 ghost use Rattle.std.specs.List.{AllByRecursion};
 ghost use Rattle.hr_base.specs.declared.status.Status.{Status};
+ghost use Rattle.hr_digest.specs.declared.digest.Digest.{Digest};
+ghost use Rattle.hr_name.specs.Name.{RepoName};
 ghost use Rattle.hr_event.specs.declared.cause.Cause.{Cause};
 ghost use Rattle.hr_event.specs.declared.entry.Entry.{Entry};
 ghost use Rattle.hr_event.specs.declared.entry.What.TheVariants.{Ended};
+ghost use Rattle.hr_graph.specs.declared.opened.TheConstants.{PAIR_LIMIT};
 ghost use Rattle.hr_adapter.specs.Content.{Content};
 ghost use Rattle.hr_adapter.specs.Reg.{Reg};
 ghost use Rattle.hr_line.specs.Evidence.{IsShown};
@@ -14,12 +17,21 @@ ghost use Rattle.hr_line.specs.State.{AreSound, State};
 ghost use Rattle.hr_line.specs.declared.held.Admitted.{Admitted};
 ghost use Rattle.hr_whole.specs.Copied.{BothUnfailing, CanBeCopied, EndsWell, NoTwoTexts, NoneFailed};
 ghost use Rattle.hr_whole.specs.Said.{AreSaid, EndsFor, IsFromSource};
-ghost use Rattle.hr_whole.specs.Whole.{TagIsWhole};
+ghost use Rattle.hr_whole.specs.Texts.{HaveSources, OpensWithOneText};
+ghost use Rattle.hr_whole.specs.Whole.{AreAllOf, HasFewPairs, TagIsWhole};
 
 use hr_line::{
     causes_stay_shown, destinations_keep_their_promise, ends_are_what_the_journal_shows,
     lanes_stay_in_order, runs_keep_the_promise,
 };
+
+/// A law: no more pairs are reached of a graph than a walk may meet, where all its blobs and
+/// manifests are among so many.
+pub fn few_pairs_are_reached_of_few()
+    ensures { (c : Content) (repo : RepoName) (root : Digest) (blobs manifests : List Digest)
+        → AreAllOf c repo root blobs manifests → length blobs + length manifests ≤ PAIR_LIMIT
+        → HasFewPairs c repo root }
+{}
 
 /// A law: no cause but want of memory can be shown of a task whose tags are whole, where all that
 /// was read is what the source has, and neither connection has failed.
@@ -47,6 +59,18 @@ pub fn journals_say_what_quiet_sources_have()
 pub fn connections_that_cannot_fail_do_not()
     ensures { (calls : List Call) (s t : State) (a : Admitted)
         → IsOpening s → AreSound t.sources → Runs calls s t → BothUnfailing s a → NoneFailed t a }
+{
+    lanes_stay_in_order();
+    destinations_keep_their_promise();
+    causes_stay_shown();
+}
+
+/// A law: where every source was opened quiet and tells, and no digest stood for two texts of them
+/// and of a destination, none does after any run.
+pub fn texts_stay_one()
+    ensures { (calls : List Call) (s t : State) (a : Admitted) (o : Content)
+        → IsOpening s → AreSound t.sources → Runs calls s t
+        → OpensWithOneText s o → HaveSources s t → NoTwoTexts t a o }
 {
     lanes_stay_in_order();
     destinations_keep_their_promise();

@@ -6,6 +6,7 @@
 mod laws;
 
 pub use laws::{
-    connections_that_cannot_fail_do_not, journals_say_what_quiet_sources_have,
-    what_can_be_copied_is_copied, whole_tags_show_no_cause,
+    connections_that_cannot_fail_do_not, few_pairs_are_reached_of_few,
+    journals_say_what_quiet_sources_have, texts_stay_one, what_can_be_copied_is_copied,
+    whole_tags_show_no_cause,
 };
