@@ -1,9 +1,7 @@
 -- Sources that were opened quiet go on telling the texts that they told.
-use Rattle.std.proofs.Common.{◌≡◌, refl, sym, ap, subst, ◌∙◌, ℕ, true}
+use Rattle.std.proofs.Common.{◌≡◌, refl, sym, ap, subst, ◌∙◌}
 use Rattle.std.specs.Prelude.{Option, Some, None, IfSome, IsSome, IsTrue, option_and_then, option_map}
-use Rattle.std.specs.Option.{is_some}
 use Rattle.hr_base.specs.Bytes.{ByteList}
-use Rattle.hr_base.specs.declared.number.RegNo.{RegNo}
 use Rattle.hr_adapter.specs.Content.{Content}
 use Rattle.hr_adapter.specs.Reg.{Reg}
 use Rattle.hr_journal.specs.Origin.{AllTell, IsText, Source}

@@ -93,6 +93,14 @@ pub fn what_can_be_copied_is_copied()
         → NoneFailed t a → NoTwoTexts t a o → Contains t.log e
         → admitted_at t.admitted e.job.0 e.rev ≡ Some a → e.what ≡ Ended status found
         → EndsWell a t.log status found }
+
+    // All premises but the entry's are about the opening.
+    ensures opened { (calls : List Call) (s t : State) (e : Entry) (a : Admitted) (c o : Content)
+        → (status : Status) (found : Option Cause)
+        → IsOpening s → AreSound t.sources → Runs calls s t → CanBeCopied s a c o
+        → BothUnfailing s a → OpensWithOneText s o → HaveSources s t → Contains t.log e
+        → admitted_at t.admitted e.job.0 e.rev ≡ Some a → e.what ≡ Ended status found
+        → EndsWell a t.log status found }
 {
     lanes_stay_in_order();
     destinations_keep_their_promise();
