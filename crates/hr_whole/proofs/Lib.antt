@@ -1,0 +1,10 @@
+mod AskedLemmas
+mod CopiedLemmas
+mod CountLemmas
+mod GraphLemmas
+mod GrowLemmas
+mod LineLemmas
+mod NeverLemmas
+mod RunLemmas
+mod StillLemmas
+mod TextLemmas

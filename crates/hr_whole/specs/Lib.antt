@@ -1,0 +1,5 @@
+pub mod Calm
+pub mod Copied
+pub mod Said
+pub mod Texts
+pub mod Whole
