@@ -22,6 +22,7 @@ TOKEN = frozenset(b"!#$%&'*+-.^_`|~0123456789"
 HEX = frozenset(b"0123456789abcdefABCDEF")
 VERBS = ("GET", "HEAD", "POST", "PUT", "PATCH", "DELETE")
 INTERIM, LINES = 8, 100
+BYTES = 65536  # of a head, of a size line, of a trailer section, with their line ends
 
 
 class Malformed(Exception):
@@ -41,10 +42,20 @@ class Reader:
 
     def __init__(self, data):
         self.data, self.at = data, 0
+        self.stop, self.fault = None, None
+        self.met_end = False
+
+    def within_limit(self, fault):
+        """From here on there may be so many bytes; one more is this fault."""
+        self.stop, self.fault = self.at + BYTES, fault
 
     def peek(self):
         if self.at == len(self.data):
+            self.met_end = True
             raise Ended
+        if self.at == self.stop:
+            self.at += 1
+            raise self.fault
         return self.data[self.at]
 
     def some(self, test, least=1, most=None):
@@ -73,7 +84,7 @@ class Reader:
     def at_line_end(self):
         return self.peek() in b"\r\n"
 
-    def lines(self):
+    def lines(self, most=LINES):
         """RFC 9112, section 5."""
         found = []
         while not self.at_line_end():
@@ -82,7 +93,7 @@ class Reader:
             value = self.some(is_value, 0)
             self.line_end()
             found.append((name, value.strip(b" \t")))
-            if len(found) > LINES:
+            if most is not None and len(found) > most:
                 raise Malformed
         self.line_end()
         return found
@@ -105,6 +116,7 @@ class Reader:
 
     def reply_head(self):
         """RFC 9112, section 4."""
+        self.within_limit(TooLong(BYTES + 1))
         self.empty_lines()
         self.version()
         self.exact(b" ")
@@ -117,6 +129,7 @@ class Reader:
 
     def request_head(self):
         """RFC 9112, section 3."""
+        self.within_limit(TooLong(BYTES + 1))
         self.empty_lines()
         method = self.some(lambda b: b in TOKEN)
         self.exact(b" ")
@@ -134,6 +147,7 @@ class Reader:
         """RFC 9112, section 7.1."""
         body = b""
         while True:
+            self.within_limit(Malformed())
             digits = self.some(lambda b: b in HEX, 1, 16)
             self.some(lambda b: b in b" \t", 0)
             if self.peek() == 59:
@@ -141,17 +155,21 @@ class Reader:
             self.exact(b"\r\n")
             size = int(digits, 16)
             if size == 0:
-                self.lines()
+                self.within_limit(Malformed())
+                self.lines(None)
                 return body
             body += self.take(size, limit - len(body), limit)
+            self.stop = None
             self.exact(b"\r\n")
 
     def take(self, size, room, limit):
         part = self.data[self.at:self.at + size]
         if len(part) > room:
+            self.at += room + 1
             raise TooLong(limit + 1)
         self.at += len(part)
         if len(part) < size:
+            self.met_end = True
             raise Ended
         return part
 
@@ -162,6 +180,7 @@ class Reader:
         if not lengths and not codings:
             if neither == "none":
                 return b""
+            self.met_end = len(self.data) - self.at <= limit
             return self.take(len(self.data) - self.at, limit, limit)
         if len(lengths) + len(codings) > 1:
             raise Malformed
@@ -197,8 +216,20 @@ def request(reader, limit):
 
 def read(kind, limit, data):
     """The message, or the name of the fault with its number."""
+    return read_by(Reader(data), kind, limit)
+
+
+def reads(kind, limit, data):
+    """How many bytes it takes, and one read more where it meets the end."""
     reader = Reader(data)
+    read_by(reader, kind, limit)
+    return reader.at + reader.met_end
+
+
+def read_by(reader, kind, limit):
+    data = reader.data
     if kind == "request" and not data:
+        reader.met_end = True
         return "nothing", None
     try:
         if kind == "request":
@@ -222,6 +253,17 @@ def verb_text(method):
 
 
 def told(kind, outcome):
+    """A long text is told by its length and its sum."""
+    text = text_of(kind, outcome)
+    if len(text) <= 2000:
+        return text
+    total = 0
+    for byte in text.encode():
+        total = (total * 31 + byte) % 2 ** 64
+    return f"{len(text)} characters with the sum {total}"
+
+
+def text_of(kind, outcome):
     name, value = outcome
     if name != "read":
         return name if value is None else f"{name} {value}"
@@ -234,9 +276,19 @@ def told(kind, outcome):
     return f"{front} {lines_text(lines)} x{body.hex()} left {left}"
 
 
+NAMES = {"read": "r", "nothing": "n", "malformed": "m", "ended": "e", "too long": "t"}
+
+
 def letters(kind, limit, data):
-    names = {"read": "r", "nothing": "n", "malformed": "m", "ended": "e", "too long": "t"}
-    return "".join(names[read(kind, limit, data[:k])[0]] for k in range(len(data) + 1))
+    return "".join(NAMES[read(kind, limit, data[:k])[0]] for k in range(len(data) + 1))
+
+
+def failing(kind, limit, data):
+    """How many reads of one byte can fail; of a malformed message that isn't fixed."""
+    letter = NAMES[read(kind, limit, data)[0]]
+    if letter == "m":
+        return "fails, then m"
+    return f"fails {reads(kind, limit, data)} times, then {letter}"
 
 
 def reason(status):
@@ -339,6 +391,58 @@ HAND = [
     ("request", 100, b"G\x00T / HTTP/1.1\r\n\r\n"),
     ("request", 100, b"PUT / HTTP/1.1\r\n" + CL2 + b"content-length: 2\r\n\r\n{}"),
     ("request", 100, b"PUT / HTTP/1.1\r\nTransfer-Encoding: identity\r\n\r\n"),
+    ("request", 100, b"GET http://a/b HTTP/1.1\r\nHost: a\r\n\r\n"),
+    ("request", 100, b"GET / HTTP/1.1\n" + b"A:b\n" * 100 + b"\n"),
+    ("request", 100, b"GET / HTTP/1.1\n" + b"A:b\n" * 101 + b"\n"),
+    ("request", 2, b"PUT / HTTP/1.1\r\n" + TE + b"\r\n1\r\na\r\n2\r\nbc\r\n0\r\n\r\n"),
+    ("reply", 2, OK + TE + b"\r\n5\r\nab"),
+]
+HAND += [(kind, limit, front + b"Content-Length: %d\r\n\r\n{}" % size)
+         for kind, front in (("reply", OK), ("request", b"PUT / HTTP/1.1\r\n"))
+         for limit, size in ((100, 2 ** 63 - 1), (2 ** 63 - 2, 2 ** 63 - 1),
+                             (2 ** 63 - 1, 2 ** 63 - 1), (2 ** 63 - 1, 2 ** 63),
+                             (2 ** 63 - 1, 10 ** 19 - 1), (100, 2 ** 64 + 2))]
+
+
+def long_heads(kind, start):
+    """Heads at their limit and one byte over it, and as many bytes that hold no head."""
+    text = start + CL2 + b"\r\n"
+    value, after = start + b"A: ", b"\r\n" + CL2 + b"\r\n"
+    for size in (BYTES, BYTES + 1):
+        yield kind, 2, [(1, value), (size - len(value + after), b"v"), (1, after + b"{}.")]
+        yield kind, 2, [(size - len(text), b"\n"), (1, text + b"{}.")]
+        ends, odd = divmod(size - len(text), 2)
+        yield kind, 2, [(ends, b"\r\n"), (odd, b"\n"), (1, text + b"{}.")]
+        yield kind, 2, [(1, value), (size - len(value), b"v")]
+        yield kind, 2, [(size, b"\n")]
+    yield kind, 2, [(1, value), (BYTES - 1 - len(value), b"v"), (1, b"\0\r\n\r\n")]
+
+
+def long_bodies(kind, start):
+    """The lines of the chunked coding, and bodies, at their limits and one byte over them."""
+    coded = start + TE + b"\r\n"
+    for size in (BYTES, BYTES + 1):
+        yield kind, 2, [(1, coded + b"2;"), (size - 4, b"e"), (1, b"\r\n{}\r\n0\r\n\r\n.")]
+        yield kind, 2, [(1, coded + b"2"), (size - 3, b" "), (1, b"\r\n{}\r\n0\r\n\r\n.")]
+        yield kind, 2, [(1, coded + b"0;"), (size - 4, b"e"), (1, b"\r\n\r\n.")]
+        yield kind, 2, [(1, coded + b"0\r\nA:"), (size - 6, b"v"), (1, b"\r\n\r\n.")]
+        yield kind, 2, [(1, coded + b"0\r\n"), (BYTES // 3, b"A:\n"),
+                        (1, b"\n." if size == BYTES else b"\r\n.")]
+        yield kind, BYTES, [(1, start + b"Content-Length: %d\r\n\r\n" % size), (size, b"b")]
+        yield kind, BYTES, [(1, coded + b"%x\r\n" % size), (size, b"b"), (1, b"\r\n0\r\n\r\n.")]
+        yield kind, 9999 + BYTES - size, [(1, coded), (9999, b"1\r\na\r\n"), (1, b"0\r\n\r\n.")]
+    yield kind, 9, [(1, coded), (3, b"2;" + b"e" * 99 + b"\r\n{}\r\n"), (1, b"0\r\n\r\n.")]
+
+
+# Long messages, each of parts that are repeated: the limits of 65,536 bytes.
+PUT = b"PUT /v2/a HTTP/1.1\r\n"
+INTERIM_HEAD = (1, b"HTTP/1.1 103 \r\nA: "), (50000, b"v"), (1, b"\r\n\r\n")
+LONG = [
+    *long_heads("reply", OK), *long_heads("request", PUT),
+    *long_bodies("reply", OK), *long_bodies("request", PUT),
+    ("reply", BYTES, [(1, OK + b"\r\n"), (BYTES, b"b")]),
+    ("reply", BYTES, [(1, OK + b"\r\n"), (BYTES + 1, b"b")]),
+    ("reply", 2, [*INTERIM_HEAD, *INTERIM_HEAD, (1, OK + CL2 + b"\r\n{}.")]),
 ]
 
 
@@ -380,6 +484,8 @@ def cases():
     rng = random.Random(9112)
     for kind, limit, data in HAND:
         print(kind, limit, data.hex())
+    for kind, limit, parts in LONG:
+        print("long", kind, limit, *(f"{count}*{text.hex()}" for count, text in parts))
     for _ in range(90):
         kind, limit, data = random_message(rng)
         print(kind, limit, data.hex())
@@ -389,18 +495,29 @@ def cases():
 
 
 def given(lines):
+    """Whether the case is long, what is read, the limit, and the bytes."""
     for line in lines:
-        kind, limit, data = line.rstrip("\n").split(" ")
-        yield kind, int(limit), bytes.fromhex(data)
+        words = line.rstrip("\n").split(" ")
+        if words[0] == "long":
+            parts = [part.split("*") for part in words[3:]]
+            data = b"".join(bytes.fromhex(text) * int(count) for count, text in parts)
+            yield True, words[1], int(words[2]), data
+        else:
+            kind, limit, data = words
+            yield False, kind, int(limit), bytes.fromhex(data)
 
 
 def verdicts():
-    for kind, limit, data in given(sys.stdin):
+    for is_long, kind, limit, data in given(sys.stdin):
         outcome = read(kind, limit, data)
         print(told(kind, outcome))
-        if kind != "request" and outcome[0] == "too long":
-            print(f"opened: {told(kind, read(kind, 2 ** 63 - 1, data))}")
+        opened = read(kind, 2 ** 63 - 1, data)
+        if kind != "request" and opened != outcome:
+            print(f"opened: {told(kind, opened)}")
+        if is_long:
+            continue
         print(letters(kind, limit, data))
+        print(failing(kind, limit, data))
         text = written(kind, outcome)
         if text is not None:
             print(f"writes x{text.hex()}")
@@ -417,7 +534,7 @@ class Socket:
 def check():
     """Compares with http.client, which passes over replies with status 100 alone."""
     same, others = 0, 0
-    for kind, limit, data in given(sys.stdin):
+    for _, kind, limit, data in given(sys.stdin):
         name, value = read(kind, limit, data)
         if kind == "request" or name != "read" or b" 199 " in data or b" 103 " in data:
             continue
@@ -426,13 +543,13 @@ def check():
             client.begin()
             got = client.status, client.read()
         except (http.client.HTTPException, ValueError) as fault:
-            print("http.client refuses", data, repr(fault))
+            print("http.client refuses", data[:200], repr(fault)[:200])
             others += 1
             continue
         if got == (value[0], value[2]):
             same += 1
         else:
-            print("differs", data, got, (value[0], value[2]))
+            print("differs", data[:200], got, (value[0], value[2]))
             others += 1
     print(f"{same} the same, {others} not")
 

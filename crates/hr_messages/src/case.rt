@@ -20,10 +20,20 @@ pub struct Case {
     /// How many bytes the body may have.
     pub limit: u64,
     pub bytes: Bytes,
+    /// Whether it is not cut off, and its link doesn't fail.
+    pub long: bool,
 }
 
 /// The case that a line says, or `None` where it says none.
 pub fn read_case(alloc: Global, line: &str) -> Result<Option<Case>, Memory> {
+    match line.strip_prefix("long ") {
+        Some(line) => read_form(alloc, line, true),
+        None => read_form(alloc, line, false),
+    }
+}
+
+// The case that a line says behind the word for a long one.
+fn read_form(alloc: Global, line: &str, long: bool) -> Result<Option<Case>, Memory> {
     let Some((kind, rest)) = line.split_once(' ') else {
         return Ok(None);
     };
@@ -33,10 +43,53 @@ pub fn read_case(alloc: Global, line: &str) -> Result<Option<Case>, Memory> {
     let (Some(kind), Some(limit)) = (kind_of(kind), read_number(limit.as_bytes())) else {
         return Ok(None);
     };
-    match read_hex(alloc, bytes.as_bytes())? {
-        Some(bytes) => Ok(Some(Case { kind, limit, bytes })),
+    let bytes = if long {
+        read_parts(alloc, bytes)?
+    } else {
+        read_hex(alloc, bytes.as_bytes())?
+    };
+    match bytes {
+        Some(bytes) => Ok(Some(Case {
+            kind,
+            limit,
+            bytes,
+            long,
+        })),
         None => Ok(None),
     }
+}
+
+// The bytes that parts spell: each is `COUNT*BYTES`, these bytes so many times.
+fn read_parts(alloc: Global, parts: &str) -> Result<Option<Bytes>, Memory> {
+    let mut all = Vec::new(alloc);
+    for part in parts.split_whitespace() {
+        match read_part(alloc, part)? {
+            Some((count, bytes)) => repeat(&mut all, count, bytes.view())?,
+            None => return Ok(None),
+        }
+    }
+    Ok(Some(Bytes::from(all)))
+}
+
+// How often a part has its bytes, and these.
+fn read_part(alloc: Global, part: &str) -> Result<Option<(u64, Bytes)>, Memory> {
+    let Some((count, bytes)) = part.split_once('*') else {
+        return Ok(None);
+    };
+    match (
+        read_number(count.as_bytes()),
+        read_hex(alloc, bytes.as_bytes())?,
+    ) {
+        (Some(count), Some(bytes)) => Ok(Some((count, bytes))),
+        _ => Ok(None),
+    }
+}
+
+fn repeat(all: &mut Vec<u8>, count: u64, bytes: &[u8]) -> Result<(), Memory> {
+    for _ in 0..count {
+        all.extend_from_slice(bytes)?;
+    }
+    Ok(())
 }
 
 fn kind_of(word: &str) -> Option<Kind> {

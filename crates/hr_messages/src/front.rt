@@ -19,13 +19,15 @@ pub fn letters(alloc: Global, case: &Case) -> Result<String, Memory> {
     Ok(text)
 }
 
-fn letter(read: &Came, count: u64) -> char {
+/// The letter for what came of so many bytes, where a link that failed is `f`.
+pub fn letter(read: &Came, count: u64) -> char {
     match read {
         Came::Reply(_, _) | Came::Request(_, _) => 'r',
         Came::Nothing => 'n',
         Came::Fault(WireFault::Ended { at }) => { if *at == count { 'e' } else { 'E' } }
         Came::Fault(WireFault::Malformed { at: _ }) => 'm',
         Came::Fault(WireFault::TooLong { len: _ }) => 't',
-        Came::Fault(_) => '?',
+        Came::Fault(WireFault::Failed) => 'f',
+        Came::Fault(WireFault::Memory) => '?',
     }
 }

@@ -13,7 +13,7 @@ pub fn open(alloc: Global, case: &Case) -> Result<Option<Came>, Memory> {
         Kind::Head => true,
         Kind::Request => return Ok(None),
     };
-    let mut link = source(alloc, case.bytes.view(), 2)?;
+    let mut link = source(alloc, case.bytes.view(), 2, 0)?;
     match open_response(alloc, &mut link, head_only) {
         Ok((mut reply, mut body)) => match pieces(alloc, &mut link, &mut body) {
             Ok(all) => {
@@ -28,11 +28,11 @@ pub fn open(alloc: Global, case: &Case) -> Result<Option<Came>, Memory> {
     }
 }
 
-// All that comes of a body, up to a thousand pieces.
+// All that comes of a body, up to a hundred thousand pieces.
 fn pieces(alloc: Global, link: &mut MemSource, body: &mut Body) -> Result<Vec<u8>, WireFault> {
     let mut all = Vec::new(alloc);
     let mut buf = [0u8; 3];
-    for _ in 0..1000u64 {
+    for _ in 0..100_000u64 {
         let count = body.read(link, &mut buf)?;
         if count == 0 {
             return Ok(all);

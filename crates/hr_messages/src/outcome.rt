@@ -17,12 +17,17 @@ pub enum Came {
 
 /// Reads these bytes as the case says, in pieces of so many bytes, or as they are asked for.
 pub fn read(alloc: Global, case: &Case, bytes: &[u8], piece: u64) -> Result<Came, Memory> {
-    let mut link = source(alloc, bytes, piece)?;
+    let mut link = source(alloc, bytes, piece, 0)?;
+    read_off(alloc, case, &mut link)
+}
+
+/// Reads what a source holds as the case says.
+pub fn read_off(alloc: Global, case: &Case, link: &mut MemSource) -> Result<Came, Memory> {
     match case.kind {
-        Kind::Reply => read_reply(alloc, &mut link, false, case.limit),
-        Kind::Head => read_reply(alloc, &mut link, true, case.limit),
-        Kind::Request => match read_request(alloc, &mut link, case.limit) {
-            Ok(Some(request)) => Ok(Came::Request(request, count_left(&mut link))),
+        Kind::Reply => read_reply(alloc, link, false, case.limit),
+        Kind::Head => read_reply(alloc, link, true, case.limit),
+        Kind::Request => match read_request(alloc, link, case.limit) {
+            Ok(Some(request)) => Ok(Came::Request(request, count_left(link))),
             Ok(None) => Ok(Came::Nothing),
             Err(WireFault::Memory) => Err(Memory),
             Err(why) => Ok(Came::Fault(why)),
@@ -43,15 +48,18 @@ fn read_reply(
     }
 }
 
-/// A source of these bytes, in pieces of so many, or as they are asked for.
-pub fn source(alloc: Global, bytes: &[u8], piece: u64) -> Result<MemSource, Memory> {
+/// A source of these bytes, in pieces of so many, or as they are asked for, whose read with this
+/// number fails: they count from 1.
+pub fn source(alloc: Global, bytes: &[u8], piece: u64, failing: u64) -> Result<MemSource, Memory> {
+    let mut fails = List::new(alloc);
+    fails.push(failing)?;
     let mut pieces = List::new(alloc);
     if piece > 0 {
         for _ in bytes {
             pieces.push(piece)?;
         }
     }
-    MemSource::new(alloc, Bytes::of(alloc, bytes)?, pieces, List::new(alloc))
+    MemSource::new(alloc, Bytes::of(alloc, bytes)?, pieces, fails)
 }
 
 /// How many bytes are left, up to a thousand.
@@ -66,8 +74,27 @@ pub fn count_left(link: &mut MemSource) -> u64 {
     1000
 }
 
-/// What it came to, as it is printed.
-pub fn outcome(alloc: Global, read: &Came) -> Result<String, Memory> {
+/// What it came to, as it is printed: a long text is told by its length and its sum.
+pub fn told(alloc: Global, read: &Came) -> Result<String, Memory> {
+    let text = outcome(alloc, read)?;
+    if text.len() <= 2000 {
+        return Ok(text);
+    }
+    let sum = sum(text.as_bytes());
+    Ok(format!(in alloc; "{} characters with the sum {sum}", text.len())?)
+}
+
+// A number that tells one text from another.
+fn sum(bytes: &[u8]) -> u64 {
+    let mut sum = 0u64;
+    for byte in bytes {
+        sum = sum.wrapping_mul(31).wrapping_add(*byte as u64);
+    }
+    sum
+}
+
+// What it came to.
+fn outcome(alloc: Global, read: &Came) -> Result<String, Memory> {
     match read {
         Came::Reply(reply, left) => {
             let lines = lines(alloc, reply.heads.view())?;
