@@ -1,0 +1,9 @@
+mod AdmissionLemmas
+mod ConnLemmas
+mod GoingLemmas
+mod HoldingLemmas
+mod LiveLemmas
+mod MediaLemmas
+mod ReadingLemmas
+mod ReadyLemmas
+mod StepLemmas

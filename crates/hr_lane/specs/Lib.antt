@@ -1,0 +1,10 @@
+pub mod Admission
+pub mod Call
+pub mod Conn
+pub mod Going
+pub mod Holding
+pub mod Line
+pub mod Roll
+pub mod State
+pub mod Stepping
+pub mod Word

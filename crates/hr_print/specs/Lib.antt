@@ -1,0 +1,4 @@
+pub mod Cause
+pub mod Step
+pub mod Text
+pub mod Word
