@@ -1,7 +1,7 @@
 #!/usr/bin/env python3
 """Writes the cases of `crates/hr_cases`, which that crate's program reads from its standard input,
 and what it must print for them. What it must print comes from `model.py` and `config_model.py` alone;
-the cases of checks, patterns and digests stand in `config_cases.py`.
+the cases of lanes stand in `lane_cases.py`, and those of checks, patterns and digests in `config_cases.py`.
 
 The form of a case stands at the head of crates/hr_cases/src/main.rt, and the form of an answer is:
 
@@ -10,6 +10,9 @@ The form of a case stands at the head of crates/hr_cases/src/main.rt, and the fo
     sent LENGTH [TEXT]                  the text that was sent
     faults N M L                        of the input, of the output and of the tree
     entry JOB.REV WORD ..               `show journal`, and what a task does
+    hook JOB.REV STATUS                 `show hooks`, of the lane
+    stop JOB.REV STATUS                 `show hooks`, of stops
+    word JOB MARK                       `show words`
     cause WORD ..                       `show causes`
     tag REG REPO TAG DIGEST             `show tags`, and of registry 2 behind a task
     listed REPO TAG LABEL ..            what registry 2 lists behind a task
@@ -33,8 +36,10 @@ import re
 import sys
 
 import config_cases
+import lane_cases
 import model
 from compare import Maker
+from lane_model import entry_text
 from model import plain
 
 HELLO = b"image 1 library/hello v1 7b7d 7b7d\ntrigger 1\nfinish\ntags 2\n"
@@ -68,6 +73,12 @@ class Case:
         self.lines.append("%s %d %d %s" % (kind, first, end, escaped(text.encode())))
         return self
 
+    def steps(self, *jobs):
+        """The input goes on with a step of each of these jobs."""
+        self.script += "".join("step %d\n" % job for job in jobs).encode()
+        self.lines.append(" ".join(["steps"] + [str(job) for job in jobs]))
+        return self
+
     def file(self, path):
         """What the input had so far is a file, and the input begins anew."""
         path = path.encode() if isinstance(path, str) else path
@@ -96,15 +107,10 @@ class Case:
         said = [self.lines[0], "status %d" % ending.status]
         said.append("sent %d [%s]" % (len(ending.text), plain(ending.text)))
         said.append("faults %d %d %d" % ending.faults)
-        for show in self.shows:
-            said += SHOWS[show](ending)
+        for show in self.shows if ending.kept else []:
+            said += SHOWS[show](ending.kept)
         for name, to, tag, how in self.tasks:
-            source, dest = copy.deepcopy(ending.registries[:2])
-            task, journal = model.Task(source, dest, name, to, [tag], how == "replace"), []
-            task.run(1, journal)
-            said += ["entry " + entry for entry in journal] + tags(2, dest)
-            for held in sorted(dest.repositories):
-                said += ["listed %s %s" % (held, tag) for tag in sorted(dest.repositories[held].tags)]
+            said += copied(ending, model.Job(1, name, to, [tag], how == "replace"))
         return said
 
 
@@ -118,18 +124,44 @@ def tags(number, registry):
     return ["tag %d %s %s %s" % ((number,) + row) for row in registry.shown()]
 
 
-def all_tags(ending):
-    return [row for at, held in enumerate(ending.registries, 1) for row in tags(at, held)]
+def copied(ending, job):
+    """What a job does between registries with what is kept in 1 and 2."""
+    held = copy.deepcopy(ending.kept.registries[:2]) if ending.kept else [model.Registry(), model.Registry()]
+    lane = model.Lane(model.Connection(1, held[0]), model.Connection(2, held[1]))
+    lane.admit(job)
+    while job.number in lane.held:
+        lane.step(job.number)
+    said = journal(lane) + tags(2, held[1])
+    for name, repository in sorted(held[1].repositories.items()):
+        said += ["listed %s %s" % (name, tag) for tag in sorted(repository.tags)]
+    return said
 
 
-def causes(ending):
-    found = (re.fullmatch(r"[0-9.]+ error (.*)", entry) for entry in ending.journal)
-    return ["cause " + cause.group(1) for cause in found if cause]
+def journal(lane):
+    return ["entry " + entry_text(entry) for entry in lane.journal]
 
 
-def content(ending):
+def all_tags(kept):
+    return [row for at, held in enumerate(kept.registries, 1) for row in tags(at, held)]
+
+
+def causes(kept):
+    ends = (about for _, (kind, *about) in kept.lane.journal if kind == "ended")
+    return ["cause " + cause for _, cause in ends if cause]
+
+
+def hooks(kept):
+    said = ["hook %d.0 %s" % hook for hook in kept.lane.hooks]
+    return said + ["stop %d.0 %s" % hook for hook in kept.stops]
+
+
+def words(kept):
+    return ["word %d %s" % (job.number, job.word) for job in kept.jobs]
+
+
+def content(kept):
     said = []
-    for at, registry in enumerate(ending.registries, 1):
+    for at, registry in enumerate(kept.registries, 1):
         said.append("registry %d" % at)
         for name, held in sorted(registry.repositories.items()):
             said.append("repository " + name)
@@ -141,10 +173,12 @@ def content(ending):
 
 
 SHOWS = {
-    "journal": lambda ending: ["entry " + entry for entry in ending.journal],
+    "journal": lambda kept: journal(kept.lane),
     "causes": causes,
     "tags": all_tags,
     "content": content,
+    "hooks": hooks,
+    "words": words,
 }
 
 
@@ -612,12 +646,16 @@ def of_tasks():
     return [Case(name % at, script).task(*rest) for at, (script, *rest) in enumerate(tasks, 1)]
 
 
+def of_lanes():
+    return [case for group in lane_cases.GROUPS for case in group(Case)]
+
+
 def of_chance():
     """Scripts from a fixed seed."""
     chance = random.Random(20261)
     cases = []
-    for at in range(1, 81):
-        show = ["journal", "tags"] if at % 8 == 0 else ["causes", "tags"]
+    for at in range(1, 201):
+        show = ["journal", "hooks", "tags"] if at % 8 == 0 else ["causes", "words", "tags"]
         cases.append(Case("a script from a seed, %d" % at, Maker(chance).script(), show))
     return cases
 
@@ -645,7 +683,7 @@ def of_checks():
 
 GROUPS = [
     of_scripts, of_devices, of_executions, of_tags, of_contents, of_journals, of_graphs, of_manifests, of_causes,
-    of_tasks, of_chance, of_checks, config_cases.of_patterns, config_cases.of_digests,
+    of_tasks, of_lanes, of_chance, of_checks, config_cases.of_patterns, config_cases.of_digests,
 ]
 
 

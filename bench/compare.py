@@ -1,7 +1,8 @@
 #!/usr/bin/env python3
 """Compares the built program with a second one, `model.py`, on random scripts.
 
-A script stores images, indexes, orphans and odd manifests in registries 1 to 3, and has some events.
+A script stores images, indexes, orphans and odd manifests in registries 1 to 3, breaks blobs, plans
+faults and moves of tags, and has some events.
 Both programs must give the same text and the same status. Prints how often each status came, and
 every script on which they differ, and ends with 1 where there is one.
 
@@ -43,12 +44,59 @@ class Maker:
             text.replace('{"schemaVersion":2', '{ "schemaVersion" : 2'),
         ])
 
+    def odd_line(self):
+        """A blob that is broken, or something that is planned for an operation."""
+        registry = self.chance.choice([1, 1, 1, 2, 2, 2, 3])
+        kind = self.chance.choice(["break", "fault", "lands", "lands", "change"])
+        operation = self.chance.randint(1, 16)
+        if kind == "break":
+            words = [self.chance.choice(["7b7d", "00", "01", "02", "03"]), self.chance.choice(["00", "01", "0101", "7b7d"])]
+            return "break %d %s %s %s" % (registry, self.chance.choice(self.names), *words)
+        if kind != "change":
+            return "%s 0 %d %d" % (kind, registry, operation)
+        places = [place for place, tags in self.known.items() if tags]
+        if not places:
+            return "fault 0 %d %d" % (registry, operation)
+        place = self.chance.choice(sorted(places))
+        tag = "t%d" % self.chance.randint(0, 9)
+        return "change 0 %d %d %s %s %s" % (place[0], operation, place[1], tag, self.chance.choice(self.known[place]))
+
+    def events(self):
+        """Some events. Steps come more than one at a time, mostly of jobs that are held."""
+        made, jobs, waiting, held, steps = [], 0, [], [], {}
+        tasks = len([name for (registry, name), tags in self.known.items() if registry == 1 and tags])
+        for _ in range(self.chance.randint(2, 24)):
+            kind = "trigger" if not made else self.chance.choice(["trigger"] + ["take"] * 5 + ["step"] * 14 + [
+                "stop", "finish", "tags", "word", "cause", "policy"])
+            if kind == "step" and not held and self.chance.random() < 0.9:
+                kind = "take" if waiting else "trigger"
+            job, count = self.chance.choice(held * 20 + list(range(1, jobs + 2))), self.chance.randint(1, 6)
+            if kind == "trigger":
+                waiting += range(jobs + 1, jobs + tasks + 1)
+                jobs += tasks
+            elif kind == "take":
+                held += waiting[:1]
+                del waiting[:1]
+            elif kind == "finish":
+                waiting = []
+            elif kind == "step":
+                # Most jobs have ended by so many steps.
+                steps[job] = steps.get(job, 0) + count
+                held = [job for job in held if steps.get(job, 0) < 9]
+            made += {
+                "trigger": ["trigger 1"], "take": ["take"], "stop": ["stop %d" % job], "finish": ["finish"],
+                "step": ["step %d" % job] * count, "cause": ["cause %d" % job],
+                "tags": ["tags %d" % self.chance.randint(1, 3)], "policy": ["trigger 3"],
+                "word": ["word %d %d" % (job, self.chance.choice([0, 0, 0, 1]))],
+            }[kind]
+        return made
+
     def setup_line(self):
         registry = self.chance.choice([1, 1, 1, 1, 1, 2, 2, 3])
         name = self.chance.choice(self.names)
         tags = self.known.setdefault((registry, name), [])
         tag = "t%d" % (len(self.lines) if self.nests else self.chance.randint(0, 9))
-        kind = self.chance.choice(["image", "index", "index" if self.nests else "image", "orphan", "manifest"])
+        kind = self.chance.choice(["image"] * 3 + ["index"] * (3 if self.nests else 1) + ["orphan", "manifest"])
         if kind == "index" and not tags:
             kind = "image"
         if kind == "index" and self.nests:
@@ -65,10 +113,13 @@ class Maker:
         self.lines.append(" ".join([kind, str(registry), name] + words))
 
     def script(self):
-        for _ in range(self.chance.randint(1, 24)):
-            self.setup_line()
-        events = ["trigger 1"] * 4 + ["finish"] * 4 + ["tags 2"] * 4 + ["tags 1", "tags 3", "trigger 3"]
-        self.lines += self.chance.choices(events, k=self.chance.randint(1, 7))
+        odd = self.chance.choice([0, 0.1, 0.3, 0.5])
+        for _ in range(self.chance.randint(1, 16)):
+            if self.chance.random() < odd:
+                self.lines.append(self.odd_line())
+            else:
+                self.setup_line()
+        self.lines += self.events()
         if self.chance.random() < 0.7:
             self.lines += ["trigger 1", "finish", "tags 2"]
         return "".join(line + "\n" for line in self.lines).encode()

@@ -4,22 +4,22 @@
 # may rise by a third, and not double. Usage: sh bench/memreg.sh
 set -eu
 . "$(dirname "$0")/scratch.sh"
-with_crates "anyhow hr_old_adapter hr_base hr_digest hr_old_memreg hr_name" hr_base hr_cause hr_digest hr_name hr_event hr_old_adapter hr_old_memreg
+with_crates "anyhow hr_adapter hr_base hr_digest hr_memreg hr_name" hr_base hr_cause hr_text hr_digest hr_name hr_event hr_adapter hr_memreg
 cat >"$scratch/crates/timing/src/main.rt" <<'RATTLE'
 //! Times tags that are put in one repository, and listed.
 #![tactic(auto)]
 
 use anyhow::{Result, bail};
-use hr_old_adapter::Registry;
+use hr_adapter::Registry;
 use hr_digest::Digest;
-use hr_old_memreg::MemRegistry;
+use hr_memreg::{MemRegistry, Setup};
 use hr_name::{Name, Tag};
 use std::alloc::Global;
 use std::rt::Clock;
 use std::time::Instant;
 
 /// Puts so many tags, in an order that is neither up nor down.
-fn put(alloc: Global, registry: &mut MemRegistry, repo: &Name, count: u32) -> Result<()> {
+fn put(alloc: Global, setup: &mut Setup, repo: &Name, count: u32) -> Result<()> {
     let digest = Digest::of(b"{}".as_slice());
     for i in 0..count {
         let mixed = i.wrapping_mul(2_654_435_761);
@@ -27,7 +27,7 @@ fn put(alloc: Global, registry: &mut MemRegistry, repo: &Name, count: u32) -> Re
         let Ok(tag) = Tag::read(alloc, text.as_bytes()) else {
             bail!("a tag is refused");
         };
-        if registry.hold_tag(repo, tag, digest).is_err() {
+        if setup.put_tag(repo, &tag, digest).is_err() {
             bail!("no room for a tag");
         }
     }
@@ -40,10 +40,11 @@ fn main(rt: HostRuntime) -> Result<()> {
         bail!("a name is refused");
     };
     for count in [4096u32, 16384, 65536] {
-        let mut registry = MemRegistry::empty(alloc);
+        let mut setup = Setup::new(alloc);
         let start = Instant::now(&rt)?;
-        put(alloc, &mut registry, &repo, count)?;
+        put(alloc, &mut setup, &repo, count)?;
         let spent = start.elapsed(&rt)?;
+        let mut registry = MemRegistry::of(setup);
         let again = Instant::now(&rt)?;
         let Ok(tags) = registry.tags(&repo) else {
             bail!("the tags are not listed");

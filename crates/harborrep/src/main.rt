@@ -2,7 +2,7 @@
 //! with the status that comes back.
 #![tactic(auto)]
 
-use hr_base::{Bytes, List};
+use hr_base::Bytes;
 use hr_cause::{StdSink, StdSource};
 use hr_top::{Ending, top};
 use hr_tree::FileTree;
@@ -24,10 +24,7 @@ fn main(rt: HostRuntime) -> ExitCode {
     let mut input = StdSource::new(rt.stdin());
     let mut output = StdSink::new(rt.stdout());
     let mut tree = FileTree::new(rt);
-    let mut kept = Ending {
-        regs: List::new(alloc),
-        journal: List::new(alloc),
-    };
+    let mut kept = Ending::nothing(alloc);
     ExitCode::from(top(alloc, &words, &mut input, &mut output, &mut tree, &mut kept))
 }
 

@@ -1,9 +1,8 @@
 //! A case, as its lines say it.
 
-use crate::numbers::{Digits, decoded, numbers, write_counted};
-use crate::tasks::task_of;
+use crate::numbers::{Digits, decoded, numbers, write_counted, write_steps};
+use crate::tasks::{Task, task_of};
 use hr_base::{Bytes, List, Memory};
-use hr_event::TaskSpec;
 use std::alloc::Global;
 use std::mem;
 
@@ -18,6 +17,10 @@ pub enum Show {
     Tags,
     /// All that each registry holds.
     Content,
+    /// The hooks of the lane, and those of stops.
+    Hooks,
+    /// The mark of each job.
+    Words,
 }
 
 /// What the lines of a case have said so far.
@@ -33,7 +36,7 @@ pub struct Case {
     pub files: List<(Bytes, Bytes)>,
     pub failing_files: List<u64>,
     pub shows: Vec<Show>,
-    pub tasks: Vec<TaskSpec>,
+    pub tasks: Vec<Task>,
 }
 
 impl Case {
@@ -60,6 +63,7 @@ impl Case {
             "line" => self.add_text(alloc, rest, b"\n"),
             "each" => self.add_each(alloc, rest, Digits::Hexadecimal),
             "count" => self.add_each(alloc, rest, Digits::Decimal),
+            "steps" => self.add_steps(alloc, rest),
             "file" => self.add_file(alloc, rest),
             "show" => self.add_show(rest),
             "task" => self.add_task(alloc, rest),
@@ -89,6 +93,12 @@ impl Case {
         for number in from..to {
             write_counted(alloc, &mut self.input, number, digits, &text)?;
         }
+        Ok(true)
+    }
+
+    fn add_steps(&mut self, alloc: Global, rest: &str) -> Result<bool, Memory> {
+        let jobs = numbers(alloc, rest)?;
+        write_steps(alloc, &mut self.input, jobs.view())?;
         Ok(true)
     }
 
@@ -142,6 +152,8 @@ fn show_of(what: &str) -> Option<Show> {
         "causes" => Some(Show::Causes),
         "tags" => Some(Show::Tags),
         "content" => Some(Show::Content),
+        "hooks" => Some(Show::Hooks),
+        "words" => Some(Show::Words),
         _ => None,
     }
 }

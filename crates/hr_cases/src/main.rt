@@ -13,12 +13,13 @@
 //! | `line TEXT` | the input goes on with this text and a line feed |
 //! | `each FROM TO TEXT` | the input goes on with this text once for each number from FROM to below TO, which stands in the place of each `*` in four hexadecimal digits |
 //! | `count FROM TO TEXT` | the same, with the number in decimal |
+//! | `steps J ..` | the input goes on with a line `step J` for each of these jobs |
 //! | `file PATH` | what the input had so far is a file at this path, and the input begins anew |
 //! | `pieces N ..` | the input gives at most so many bytes at its reads, one after the other |
 //! | `failing_reads N ..` | the reads with these numbers fail, from 1 |
 //! | `failing_writes N ..` | the writes with these numbers fail, from 1 |
 //! | `failing_files N ..` | the calls of the tree with these numbers fail, from 1 |
-//! | `show WHAT` | prints `journal`, `causes`, `tags` or `content` of what is kept |
+//! | `show WHAT` | prints `journal`, `causes`, `hooks`, `words`, `tags` or `content` of what is kept |
 //! | `task FROM TO TAG HOW` | a task then copies a tag between registries with what is kept in 1 and 2; HOW is `replace` or `keep` |
 //! | `run` | runs the case |
 //!
@@ -35,12 +36,14 @@
 
 mod case;
 mod digits;
+mod kept;
 mod numbers;
 mod outcome;
 mod registries;
 mod single;
 mod steps;
 mod tasks;
+mod words;
 
 use crate::case::Case;
 use crate::outcome::run;

@@ -55,3 +55,11 @@ pub fn write_counted(
     }
     Ok(())
 }
+
+/// Puts a line `step JOB` at the end of an input for each of these jobs.
+pub fn write_steps(alloc: Global, input: &mut Vec<u8>, jobs: &[u64]) -> Result<(), Memory> {
+    for job in jobs {
+        input.extend_from_slice(format!(in alloc; "step {job}\n")?.as_bytes())?;
+    }
+    Ok(())
+}

@@ -3,12 +3,13 @@
 use crate::case::{Case, Show};
 use crate::digits::Plain;
 use crate::registries::{write_contents, write_tags};
-use crate::steps::{Because, Step, cause_of};
+use crate::steps::{write_causes, write_journal};
 use crate::tasks::write_tasks;
-use hr_base::{Bytes, List, Memory};
+use crate::words::{write_hooks, write_words};
+use hr_base::{Bytes, Memory};
 use hr_cause::{Counted, MemSink, MemSource};
-use hr_event::Entry;
-use hr_top::{Ending, top};
+use hr_replay::Ending;
+use hr_top::top;
 use hr_tree::MemTree;
 use std::alloc::Global;
 
@@ -40,9 +41,9 @@ pub fn run(alloc: Global, case: Case) -> Result<String, Memory> {
         sink: MemSink::new(alloc, failing_writes)?,
         tree: MemTree::new(alloc, files, failing_files)?,
     };
-    let kept = call(alloc, &mut said, &words, &mut devices)?;
+    let mut kept = call(alloc, &mut said, &words, &mut devices)?;
     for show in shows {
-        write_shown(alloc, &mut said, show, &kept)?;
+        write_shown(alloc, &mut said, show, &mut kept)?;
     }
     write_tasks(alloc, &mut said, &kept, &tasks)?;
     Ok(said)
@@ -55,10 +56,7 @@ fn call(
     words: &[Bytes],
     devices: &mut Devices,
 ) -> Result<Ending, Memory> {
-    let mut kept = Ending {
-        regs: List::new(alloc),
-        journal: List::new(alloc),
-    };
+    let mut kept = Ending::nothing(alloc);
     let Devices { source, sink, tree } = devices;
     let status = top(alloc, words, source, sink, tree, &mut kept);
     let sent = sink.sent();
@@ -69,27 +67,18 @@ fn call(
     Ok(kept)
 }
 
-fn write_shown(alloc: Global, said: &mut String, show: Show, kept: &Ending) -> Result<(), Memory> {
+fn write_shown(
+    alloc: Global,
+    said: &mut String,
+    show: Show,
+    kept: &mut Ending,
+) -> Result<(), Memory> {
     match show {
-        Show::Journal => write_journal(said, kept.journal.view()),
-        Show::Causes => write_causes(said, kept.journal.view()),
-        Show::Tags => write_tags(said, kept.regs.view()),
-        Show::Content => write_contents(alloc, said, kept.regs.view()),
+        Show::Journal => write_journal(said, kept),
+        Show::Causes => write_causes(said, kept),
+        Show::Tags => write_tags(said, kept),
+        Show::Content => write_contents(alloc, said, kept),
+        Show::Hooks => write_hooks(said, kept),
+        Show::Words => write_words(said, kept),
     }
-}
-
-/// Writes each entry of a journal.
-pub fn write_journal(said: &mut String, journal: &[Entry]) -> Result<(), Memory> {
-    for entry in journal {
-        writeln!(said, "entry {}", Step(entry))?;
-    }
-    Ok(())
-}
-
-// Writes the causes of a journal.
-fn write_causes(said: &mut String, journal: &[Entry]) -> Result<(), Memory> {
-    for cause in journal.iter().filter_map(|entry| cause_of(entry)) {
-        writeln!(said, "cause {}", Because(cause))?;
-    }
-    Ok(())
 }

@@ -1,24 +1,27 @@
 //! What registries hold, a line for each tag, manifest and blob.
 
 use crate::digits::{Named, Plain};
-use hr_base::{Bytes, Memory};
+use crate::kept::registry;
+use hr_adapter::{RegFault, Registry, Tagged};
+use hr_base::{Bytes, Memory, RegNo};
+use hr_memreg::{BlobAt, ManifestAt, MemRegistry, RepoContent, TagAt};
 use hr_name::Name;
-use hr_old_adapter::{RegFault, Registry, Tagged};
-use hr_old_memreg::{BlobAt, ManifestAt, RepoContent, TagAt};
-use hr_top::RegHeld;
+use hr_replay::Ending;
 use std::alloc::Global;
 
 /// Writes the tags of each registry that lead to a manifest.
-pub fn write_tags(said: &mut String, regs: &[RegHeld]) -> Result<(), Memory> {
-    for held in regs {
-        write_shown(said, held.reg.0, &held.held)?;
+pub fn write_tags(said: &mut String, kept: &Ending) -> Result<(), Memory> {
+    for reg in 1..=8u8 {
+        if let Some(held) = registry(kept, RegNo(reg)) {
+            write_shown(said, reg, held)?;
+        }
     }
     Ok(())
 }
 
 /// Writes the tags of a registry that lead to a manifest.
-pub fn write_shown<R: Registry>(said: &mut String, reg: u8, registry: &R) -> Result<(), Memory> {
-    let shown = registry.shown()?;
+pub fn write_shown(said: &mut String, reg: u8, held: &MemRegistry) -> Result<(), Memory> {
+    let shown = held.shown()?;
     for tag in shown.view() {
         let (repo, name) = (Plain(tag.repo.view()), Plain(tag.tag.view()));
         writeln!(said, "tag {reg} {repo} {name} {}", Named(tag.digest))?;
@@ -27,10 +30,10 @@ pub fn write_shown<R: Registry>(said: &mut String, reg: u8, registry: &R) -> Res
 }
 
 /// Writes the tags of each repository as a registry lists them.
-pub fn write_listed<R: Registry>(said: &mut String, registry: &mut R) -> Result<(), RegFault> {
-    let repos = registry.repos()?;
+pub fn write_listed(alloc: Global, said: &mut String, held: &MemRegistry) -> Result<(), RegFault> {
+    let repos = held.list_repos(alloc)?;
     for repo in repos.view() {
-        let tags = registry.tags(repo)?;
+        let tags = held.list_tags(alloc, repo)?;
         write_tagged(said, repo, tags.view())?;
     }
     Ok(())
@@ -60,13 +63,21 @@ fn write_labels(said: &mut String, labels: &[Bytes]) -> Result<(), Memory> {
 }
 
 /// Writes all that each registry holds.
-pub fn write_contents(alloc: Global, said: &mut String, regs: &[RegHeld]) -> Result<(), Memory> {
-    for held in regs {
-        let content = held.held.content(alloc)?;
-        writeln!(said, "registry {}", held.reg.0)?;
-        for repo in content.repos.view() {
-            write_repository(said, repo)?;
+pub fn write_contents(alloc: Global, said: &mut String, kept: &Ending) -> Result<(), Memory> {
+    for reg in 1..=8u8 {
+        if let Some(held) = registry(kept, RegNo(reg)) {
+            writeln!(said, "registry {reg}")?;
+            write_content(alloc, said, held)?;
         }
+    }
+    Ok(())
+}
+
+// Writes all that a registry holds.
+fn write_content(alloc: Global, said: &mut String, held: &MemRegistry) -> Result<(), Memory> {
+    let content = held.content(alloc)?;
+    for repo in content.repos.view() {
+        write_repository(said, repo)?;
     }
     Ok(())
 }

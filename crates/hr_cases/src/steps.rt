@@ -1,14 +1,37 @@
 //! What happened in copies, a line for each entry of a journal.
 
 use crate::digits::{Named, Perhaps, Plain};
-use hr_base::Status;
+use crate::kept::journal;
+use hr_base::{Memory, Status};
 use hr_digest::Digest;
 use hr_event::{Cause, Entry, How, Reference, What};
+use hr_replay::Ending;
 use std::fmt;
 
-/// An entry: the job and the revision, and what happened.
+/// Writes each entry of the journal.
+pub fn write_journal(said: &mut String, kept: &Ending) -> Result<(), Memory> {
+    write_entries(said, journal(kept))
+}
+
+/// Writes these entries.
+pub fn write_entries(said: &mut String, entries: &[Entry]) -> Result<(), Memory> {
+    for entry in entries {
+        writeln!(said, "entry {}", Step(entry))?;
+    }
+    Ok(())
+}
+
+/// Writes the causes of the journal.
+pub fn write_causes(said: &mut String, kept: &Ending) -> Result<(), Memory> {
+    for cause in journal(kept).iter().filter_map(|entry| cause_of(entry)) {
+        writeln!(said, "cause {}", Because(cause))?;
+    }
+    Ok(())
+}
+
+// An entry: the job and the revision, and what happened.
 #[derive(Clone, Copy)]
-pub struct Step<'a>(pub &'a Entry);
+struct Step<'a>(&'a Entry);
 
 impl fmt::Display for Step<'_> {
     fn fmt<W: fmt::Write>(&self, f: &mut fmt::Formatter<W>) -> fmt::Result {
@@ -91,8 +114,8 @@ fn end_of(status: Status) -> &'static str {
     }
 }
 
-/// The cause that an entry gives, where it gives one.
-pub fn cause_of(entry: &Entry) -> Option<&Cause> {
+// The cause that an entry gives, where it gives one.
+fn cause_of(entry: &Entry) -> Option<&Cause> {
     match &entry.what {
         What::Ended {
             cause: Some(cause),
@@ -102,9 +125,9 @@ pub fn cause_of(entry: &Entry) -> Option<&Cause> {
     }
 }
 
-/// A cause in words.
+// A cause in words.
 #[derive(Clone, Copy)]
-pub struct Because<'a>(pub &'a Cause);
+struct Because<'a>(&'a Cause);
 
 impl fmt::Display for Because<'_> {
     fn fmt<W: fmt::Write>(&self, f: &mut fmt::Formatter<W>) -> fmt::Result {

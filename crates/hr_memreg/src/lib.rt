@@ -12,6 +12,7 @@ mod listing;
 mod operation;
 mod registry;
 mod repository;
+mod setup;
 mod standing;
 #[cfg(test)]
 mod tests;
@@ -20,3 +21,4 @@ mod writing;
 pub use content::{BlobAt, Content, ManifestAt, RepoContent, TagAt};
 pub use hr_adapter::{Change, Planned};
 pub use registry::MemRegistry;
+pub use setup::Setup;

@@ -1,9 +1,4 @@
-pub mod ContentLemmas
-pub mod JobLemmas
-pub mod OpeningLemmas
-pub mod PlanLemmas
-pub mod ReadingLemmas
-pub mod RunLemmas
-pub mod ScriptLemmas
-pub mod SessionLemmas
-pub mod StoreLemmas
+mod ConnectLemmas
+mod CountLemmas
+mod RunLemmas
+mod ScriptLemmas

@@ -1,40 +1,90 @@
 -- What a text stands for, put together from its lines, its opening and its run.
-use Rattle.std.proofs.Common.{◌≡◌, ℕ, List, None, Ok}
+use Rattle.std.proofs.Common.{◌≡◌, ◌≤◌, ℕ, List, length, None, Some, Option, inl, inr, sym, subst, arith, []}
+use Rattle.hr_base.specs.Bytes.{ByteList, Text}
 use Rattle.hr_event.specs.declared.event.Event.{Event}
-use Rattle.hr_old_adapter.specs.Content.{Honest}
+use Rattle.hr_event.specs.declared.told.Told.{Told}
+use Rattle.hr_event.specs.declared.task.TaskSpec.{TaskSpec}
+use Rattle.hr_board.specs.Plain.{IsLawful, Plain, view_of}
+use Rattle.hr_line.specs.Run.{AreApart}
+use Rattle.hr_line.specs.State.{Link}
+use Rattle.hr_opening.specs.Opening.{Opens}
+use Rattle.hr_opening.specs.Plan.{plan_of}
+use Rattle.hr_opening.specs.Setup.{Setups, registries_of, setup_in}
+use Rattle.hr_opening.specs.declared.opening.Opened.{Opened}
 use Rattle.hr_script.specs.Reading.{IsReading}
 use Rattle.hr_script.specs.declared.reading.Lines.{Lines}
-use Rattle.hr_replay.specs.Opening.{Contents, after_lines, content_in, events_in, no_contents}
-use Rattle.hr_replay.specs.Replay.{Holds, IsReplayed, IsRun}
-use Rattle.hr_replay.specs.Run.{Runs, State, opening}
-use Rattle.hr_replay.specs.Script.{IsScript}
-use Rattle.hr_replay.specs.declared.session.Ending.{Ending}
-use Rattle.hr_replay.proofs.ContentLemmas.{lines_well, none_well, well_in}
-use Rattle.hr_replay.proofs.ReadingLemmas.{reading_fit}
-use Rattle.hr_replay.proofs.RunLemmas.{holds_after}
+use Rattle.hr_session.specs.Done.{AreTasksCopied}
+use Rattle.hr_session.specs.Ends.{AreEndsMoves, ends_of}
+use Rattle.hr_session.specs.Holds.{Holds}
+use Rattle.hr_session.specs.Lane.{IsLaneSound}
+use Rattle.hr_session.specs.Run.{IsDone, Runs}
+use Rattle.hr_session.specs.State.{Session, opening}
+use Rattle.hr_replay.specs.Connect.{JOB_LIMIT, dests_of, first_session, sources_of}
+use Rattle.hr_replay.specs.Replay.{HasLawfulBoard, HasStatus, IsReliable, IsReplayed, IsRun}
+use Rattle.hr_replay.specs.declared.ending.Ending.{Ending}
+use Rattle.hr_replay.proofs.ConnectLemmas.{dests_apart}
+use Rattle.hr_memreg.specs.Mem.{Mem}
+use Rattle.std.specs.Prelude.{IfSome}
 
-pub script_honest : (text : List ℕ) (opens : Contents) (events : List Event) → IsScript text opens events → (reg : ℕ) → Honest (content_in opens reg)
-script_honest text opens events is reg =
-    (well_in opens reg (lines_well no_contents is.lines.lines opens (reading_fit text is.lines is.reading) none_well is.opens)).honest
+-- the laws of sessions that are used
+pub record Laws : Type 0 where
+  pub holds : (sources dests others : List Link) (plan : Option (List TaskSpec)) (jobs : ℕ) (events : List Event) (said : List Told)
+      (t : Session) → AreApart dests → IsLaneSound (opening sources dests others plan jobs).lane
+      → Runs (opening sources dests others plan jobs) events said t → Holds (opening sources dests others plan jobs) t
+  pub moves : (sources dests others : List Link) (plan : Option (List TaskSpec)) (jobs : ℕ) (events : List Event) (said : List Told)
+      (t : Session) → AreApart dests → IsLaneSound (opening sources dests others plan jobs).lane
+      → Runs (opening sources dests others plan jobs) events said t → AreEndsMoves t
+  pub once : (s : Session) (board : Plain) (job rev : ℕ) → s.board ≡ view_of board → IsLawful board.words board.past
+      → AreEndsMoves s → 1 ≤ job → rev ≤ 3 → ends_of s job rev ≤ 1
+  pub done : (sources dests others : List Link) (plan : Option (List TaskSpec)) (jobs : ℕ) (events : List Event) (said : List Told)
+      (t : Session) (board : Plain) → AreApart dests → IsLaneSound (opening sources dests others plan jobs).lane
+      → Runs (opening sources dests others plan jobs) events said t → t.board ≡ view_of board
+      → IsLawful board.words board.past → IsDone t → AreTasksCopied t
 
-pub script_holds : (text : List ℕ) (opens : Contents) (events run : List Event) (said : List ℕ) (state : State) → IsScript text opens events
-    → Runs (opening opens) run said state → Holds (opening opens) state
-script_holds text opens events run said state is runs =
-    holds_after opens run said state (script_honest text opens events is 2) runs
-
-pub replayed : (text : List ℕ) (lines : Lines) (opens : Contents) (events : List Event) (kept : Ending) (said : List ℕ) (status : ℕ) → IsReading text lines → lines.fault ≡ None
-    → after_lines no_contents lines.lines ≡ Ok opens → events ≡ events_in lines.lines → IsRun opens events kept said status → IsReplayed text kept said status
-replayed text lines opens events kept said status reading whole opened goes run =
-    let script : IsScript text opens events = record { lines = lines; reading = reading; whole = whole; opens = opened; goes = goes } in
+reliable : Laws → (setups : Setups) → length (registries_of setups) ≡ 8 → IsLaneSound (first_session setups).lane
+    → (events : List Event) (said : List Told) (t : Session) → Runs (first_session setups) events said t
+    → IsReliable (first_session setups) t
+reliable laws setups eight sound events said t runs =
+    let apart = dests_apart (registries_of setups) eight in
     record {
-      opens = opens;
-      events = events;
-      script = script;
-      honest = script_honest text opens events script;
-      state = run.state;
-      runs = run.runs;
-      holds = script_holds text opens events events said run.state script run.runs;
-      always = λ front behind answers mid split runs. script_holds text opens events front answers mid script runs;
-      keeps = run.keeps;
-      ends = run.ends;
+      holds = laws.holds (sources_of (registries_of setups)) (dests_of (registries_of setups)) []
+          (plan_of (setup_in setups 1).content) JOB_LIMIT events said t apart sound runs;
+      ends = laws.moves (sources_of (registries_of setups)) (dests_of (registries_of setups)) []
+          (plan_of (setup_in setups 1).content) JOB_LIMIT events said t apart sound runs;
+    }
+
+is_done : (s : Session) (status : ℕ) → HasStatus s status → status ≡ 0 → IsDone s
+is_done s status has zero = elim has [
+  | inl done ↦ done.0
+  | inr failed ↦ let seven = failed.1 in absurd (omega (arith, zero, seven))
+]
+
+kept_lawful : (kept : Ending) (board : Plain) → kept.board ≡ Some board → HasLawfulBoard kept → IsLawful board.words board.past
+kept_lawful kept board there lawful =
+    subst (λ (o : Option Plain). IfSome o (λ b. IsLawful b.words b.past)) there lawful
+
+pub replayed : Laws → (text : ByteList) (lines : Lines) (opened : Opened) (kept : Ending) (said : Text) (status : ℕ) → IsReading text lines
+    → lines.fault ≡ None → Opens lines.lines opened → length opened.regs ≡ 8
+    → ((setups : Setups) → opened.regs ≡ registries_of setups → IsRun (first_session setups) opened.events kept said status)
+    → ((setups : Setups) → opened.regs ≡ registries_of setups → IsLaneSound (first_session setups).lane)
+    → HasLawfulBoard kept → IsReplayed text kept said status
+replayed laws text lines opened kept said status reading whole opens eight runs sounds lawful =
+    let setups = opens.setups in
+    let run : IsRun (first_session setups) opened.events kept said status = runs setups opens.regs in
+    let sound = sounds setups opens.regs in
+    let few : length (registries_of setups) ≡ 8 = subst (λ (xs : List Mem). length xs ≡ 8) opens.regs eight in
+    let law = kept_lawful kept run.keeps.board run.keeps.there lawful in
+    let seen = sym run.keeps.seen in
+    let now = reliable laws setups few sound opened.events run.told run.after run.runs in
+    record {
+      opens = setups;
+      events = opened.events;
+      reads = record { lines = lines; reading = reading; whole = whole; opened = opens.opens; goes = opens.events };
+      run = run;
+      always = λ front behind answers mid split runs. reliable laws setups few sound front answers mid runs;
+      reliable = now;
+      once = λ job rev first last. laws.once run.after run.keeps.board job rev seen law now.ends first last;
+      copied = λ zero. laws.done (sources_of (registries_of setups)) (dests_of (registries_of setups)) []
+          (plan_of (setup_in setups 1).content) JOB_LIMIT opened.events run.told run.after run.keeps.board
+          (dests_apart (registries_of setups) few) sound run.runs seen law (is_done run.after status run.ends zero);
     }

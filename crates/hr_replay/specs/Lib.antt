@@ -1,7 +1,4 @@
-pub mod Fit
-pub mod Opening
-pub mod Plan
+pub mod Connect
 pub mod Replay
-pub mod Run
 pub mod Script
 pub mod Text

@@ -1,56 +1,69 @@
 -- What running a script gives. (Our own.)
-use Rattle.std.specs.Prelude.{◌≡◌, ◌⊎◌, ℕ, List, [], ◌∷◌, ◌++◌, map, reverse}
+use Rattle.std.specs.Prelude.{◌≡◌, ◌⊎◌, ◌≤◌, ℕ, List, [], ◌++◌, reverse, Some, None, IfSome}
+use Rattle.hr_base.specs.Bytes.{ByteList, Text}
 use Rattle.hr_event.specs.declared.event.Event.{Event}
-use Rattle.hr_old_adapter.specs.Content.{Honest}
-use Rattle.hr_copy.specs.Going.{AreFound}
-use Rattle.hr_old_journal.specs.Promise.{Promise}
-use Rattle.hr_replay.specs.Opening.{Contents, content_in}
-use Rattle.hr_replay.specs.Run.{AreCaused, AreFinal, IsDone, RanJobs, Runs, State, from_of, opening, to_of}
+use Rattle.hr_event.specs.declared.told.Told.{Told}
+use Rattle.hr_board.specs.Plain.{IsLawful, Plain, view_of}
+use Rattle.hr_opening.specs.Setup.{Setups}
+use Rattle.hr_print.specs.Text.{texts_of}
+use Rattle.hr_session.specs.Done.{AreTasksCopied}
+use Rattle.hr_session.specs.Ends.{AreEndsMoves, ends_of}
+use Rattle.hr_session.specs.Holds.{Holds}
+use Rattle.hr_session.specs.Run.{IsDone, Runs}
+use Rattle.hr_session.specs.State.{Session}
+use Rattle.hr_replay.specs.Connect.{first_session}
 use Rattle.hr_replay.specs.Script.{IsScript}
-use Rattle.hr_replay.specs.declared.session.Ending.{Ending}
+use Rattle.hr_replay.specs.declared.ending.Ending.{Ending}
 
--- the registries, from number 1 on, and the journal are those of a state
-pub record IsKept (state : State) (kept : Ending) : Type 0 where
-  pub numbers : map (λ held. held.reg.0) kept.regs ≡ 1 ∷ 2 ∷ 3 ∷ 4 ∷ 5 ∷ 6 ∷ 7 ∷ 8 ∷ []
-  pub contents : map (λ held. held.held.content) kept.regs ≡ state.contents
-  pub journal : reverse kept.journal ≡ state.log
+-- nothing is kept
+pub record IsNothing (kept : Ending) : Type 0 where
+  pub lane : kept.lane ≡ None
+  pub board : kept.board ≡ None
+  pub stops : kept.stops ≡ []
 
--- each tag that was put at registry 2 and names its manifest still names one that was read at
--- registry 1, whose whole graph stands there; the journal is that of the jobs that were run, each
--- as its task says; each revision has at most one final status; and a cause that blames registry 1
--- is shown by its content
-pub record Holds (first state : State) : Type 0 where
-  pub promise : Promise (to_of state.tasks) (content_in first.contents 2)
-      state.log (content_in state.contents 2)
-  pub found : AreFound (from_of state.tasks) (content_in first.contents 1) state.log
-  pub ran : RanJobs state.tasks 0 state.ends [] state.log
-  pub final : AreFinal state.ends state.log
-  pub caused : AreCaused (content_in first.contents 1) state.tasks state.log
+-- what is kept is what a session made
+pub record IsKept (s : Session) (kept : Ending) : Type 0 where
+  pub lane : kept.lane ≡ Some s.lane
+  pub board : Plain
+  pub there : kept.board ≡ Some board
+  pub seen : view_of board ≡ s.board
+  pub stops : reverse kept.stops ≡ s.stops
+
+-- the words, notes and own moves of the board that is kept agree
+abbrev pub HasLawfulBoard : Ending → Type 0
+HasLawfulBoard kept = IfSome kept.board (λ board. IsLawful board.words board.past)
 
 -- 0 where each execution succeeded, else 7
-abbrev pub HasStatus : State → ℕ → Type 0
-HasStatus state status = (IsDone state × (status ≡ 0)) ⊎ ((IsDone state → ⊥) × (status ≡ 7))
+abbrev pub HasStatus : Session → ℕ → Type 0
+HasStatus s status = (IsDone s × (status ≡ 0)) ⊎ ((IsDone s → ⊥) × (status ≡ 7))
 
--- these events were run from these contents, one after the other, with these answers
-pub record IsRun (opens : Contents) (events : List Event) (kept : Ending) (said : List ℕ) (status : ℕ) : Type 0 where
-  pub state : State
-  pub runs : Runs (opening opens) events said state
-  pub keeps : IsKept state kept
-  pub ends : HasStatus state status
+-- these events were run in a session that began so, one after the other, with answers of this text
+pub record IsRun (first : Session) (events : List Event) (kept : Ending) (text : Text) (status : ℕ)
+    : Type 0 where
+  pub told : List Told
+  pub after : Session
+  pub runs : Runs first events told after
+  pub says : text ≡ texts_of told
+  pub keeps : IsKept after kept
+  pub ends : HasStatus after status
 
--- the text is a script, whose registries open with everything under its own digest; its events
--- were run one after the other, with these answers; and the promise holds at the end, as after each
--- front of the events
-pub record IsReplayed (text : List ℕ) (kept : Ending) (said : List ℕ) (status : ℕ) : Type 0 where
-  pub opens : Contents
+-- what operators rest on, of a session as it began and as it is: all that holds of its lane; and each
+-- end of a revision, by an entry or by the hook of a stop, is a last move of its word
+pub record IsReliable (first now : Session) : Type 0 where
+  pub holds : Holds first now
+  pub ends : AreEndsMoves now
+
+-- the text is a script, whose events were run one after the other, with answers of this text; what
+-- operators rest on holds at the end, as after each front of the events; no revision ended twice;
+-- and with the status 0 each task was copied
+pub record IsReplayed (script : ByteList) (kept : Ending) (text : Text) (status : ℕ) : Type 0 where
+  pub opens : Setups
   pub events : List Event
-  pub script : IsScript text opens events
-  pub honest : (reg : ℕ) → Honest (content_in opens reg)
-  pub state : State
-  pub runs : Runs (opening opens) events said state
-  pub holds : Holds (opening opens) state
-  pub always : (front behind : List Event) (answers : List ℕ) (mid : State)
-      → events ≡ front ++ behind → Runs (opening opens) front answers mid
-      → Holds (opening opens) mid
-  pub keeps : IsKept state kept
-  pub ends : HasStatus state status
+  pub reads : IsScript script opens events
+  pub run : IsRun (first_session opens) events kept text status
+  pub always : (front behind : List Event) (answers : List Told) (mid : Session)
+      → events ≡ front ++ behind → Runs (first_session opens) front answers mid
+      → IsReliable (first_session opens) mid
+  pub reliable : IsReliable (first_session opens) run.after
+  pub once : (job rev : ℕ) → 1 ≤ job → rev ≤ 3 → ends_of run.after job rev ≤ 1
+  pub copied : status ≡ 0 → AreTasksCopied run.after

@@ -1,16 +1,12 @@
-//! Running a script: its setup lines are stored in registries in memory, and its events copy the
-//! tags of registry 1 to registry 2. Start with `replaying`.
+//! A script from its text to its answers: its setup lines open registries in memory, and its events
+//! are run over a lane. Start with `replaying`.
 #![tactic(auto)]
 
-mod answer;
+mod connecting;
+mod ending;
 mod events;
-mod finish;
-mod law;
-mod line;
-mod planning;
+mod refusal;
 mod replaying;
-mod session;
 
-pub use law::the_promise_holds;
+pub use ending::Ending;
 pub use replaying::{Refused, Replayed, replay};
-pub use session::{Ending, RegHeld};

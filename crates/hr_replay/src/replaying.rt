@@ -1,22 +1,34 @@
 //! A script from its text to its answers. (Our own.)
-ghost use Rattle.std.specs.Prelude.{◌≡◌, ◌≤◌, ◌⊎◌, ◌++◌, ℕ, List, OnOk, IfOk, Some, None, codes, length};
+ghost use Rattle.std.specs.Prelude.{◌≡◌, ◌≤◌, ◌<◌, ◌+◌, ◌^◌, ◌⊎◌, ℕ, [], List, IfOk, codes, length};
 ghost use Rattle.std.specs.List.{AllByRecursion};
+ghost use Rattle.hr_opening.specs.Setup.{Setups, registries_of};
 ghost use Rattle.hr_script.specs.declared.refusal.Why.{Why};
-ghost use Rattle.hr_replay.specs.Fit.{ArePlain, IsFit, IsScripted, IsWell};
-ghost use Rattle.hr_replay.specs.Opening.{after_line, after_lines, contents_of, event_in, events_in, no_contents};
-ghost use Rattle.hr_replay.specs.Replay.{IsReplayed, IsRun};
-ghost use Rattle.hr_replay.specs.Run.{Runs, State, opening};
+ghost use Rattle.hr_session.specs.Does.{IsScripted};
+ghost use Rattle.hr_session.specs.Lane.{IsLaneSound};
+ghost use Rattle.hr_session.specs.Parts.{session_of};
+ghost use Rattle.hr_replay.specs.Connect.{first_session};
+ghost use Rattle.hr_replay.specs.Replay.{HasLawfulBoard, IsReplayed, IsRun};
 ghost use Rattle.hr_replay.specs.Script.{IsBad, LacksTag};
 ghost use Rattle.hr_replay.specs.Text.{bad_text, why_text};
 
-use crate::answer::{bad_line, line_lacks_tag};
-use crate::line::{LineRefused, store_line};
-use crate::session::{Ending, REGISTRIES, Session};
+use crate::connecting::{Connected, connect};
+use crate::ending::Ending;
+use crate::events::take_events;
+use crate::refusal::{bad_line, line_lacks_tag};
 use hr_base::{Bytes, List, Memory};
 use hr_event::Event;
-use hr_old_memreg::MemRegistry;
-use hr_script::{Fault, Line, Lines, Numbered, SCRIPT_LIMIT, read_lines};
+use hr_memreg::MemRegistry;
+use hr_opening::{OpenRefused, Opened, open_script, plan};
+use hr_print::print_all;
+use hr_script::{Fault, Lines, SCRIPT_LIMIT, read_lines};
+use hr_session::{
+    Ended, Session, answers_have_texts, each_revision_ends_once, the_promise_holds,
+    what_is_done_was_copied,
+};
 use std::alloc::Global;
+
+// How many jobs there are at most.
+const JOB_LIMIT: u32 = 16_384;
 
 /// What running a script gave.
 #[derive(Drop)]
@@ -39,10 +51,10 @@ pub enum Refused {
 
 /// Runs the script that a text of at most 1,048,576 bytes is.
 ///
-/// Its setup lines store manifests, blobs and tags in the registries 1 to 8. `trigger 1` plans a
-/// task for each repository of registry 1 that has a tag, `finish` copies their tags to registry 2,
-/// and `tags REG` lists the tags of a registry. The first bad line is refused, and nothing is run
-/// then.
+/// Its setup lines store manifests, blobs and tags in the registries 1 to 8, and plan which of their
+/// operations fail and which tags move. Its events plan tasks from registry 1 to registry 2, take and
+/// step them, stop them, and ask for words, causes and tags. The first bad line is refused, and
+/// nothing is run then.
 pub fn replay(alloc: Global, text: &[u8]) -> Result<Replayed, Refused>
     requires { length text.now ≤ SCRIPT_LIMIT }
     ensures ok { IfOk result (λ run. IsReplayed text.now run.kept run.text run.status) }
@@ -51,19 +63,85 @@ pub fn replay(alloc: Global, text: &[u8]) -> Result<Replayed, Refused>
         ⊎ ((number : ℕ) × (why : Why) × IsBad text.now number why
         × (said ≡ bad_text number (why_text why))) }
 {
+    the_promise_holds();
+    each_revision_ends_once();
+    what_is_done_was_copied();
     let lines = match read_lines(alloc, text) {
         Ok(lines) => lines,
         Err(Memory) => return Err(Refused::Memory),
     };
     let Lines { lines, fault } = lines;
-    let (regs, events) = open_script(alloc, lines)?;
+    let opened = match open_script(alloc, lines) {
+        Ok(opened) => opened,
+        Err(OpenRefused::Reference { line }) => return Err(bad(line_lacks_tag(alloc, line))),
+        Err(OpenRefused::Memory) => return Err(Refused::Memory),
+    };
     if let Some(Fault { line, why }) = fault {
         return Err(bad(bad_line(alloc, line, why)));
     }
-    match run(alloc, regs, &events) {
+    match run(alloc, opened) {
         Ok(replayed) => Ok(replayed),
         Err(Memory) => Err(Refused::Memory),
     }
+}
+
+// Runs the events of a script that was opened.
+fn run(alloc: Global, opened: Opened) -> Result<Replayed, Memory>
+    requires eight { length opened.regs ≡ 8 }
+    requires scripted { AllByRecursion IsScripted opened.events }
+    requires few { length opened.events ≤ SCRIPT_LIMIT + 1 }
+    ensures run { IfOk result (λ run. (setups : Setups) → opened.regs ≡ registries_of setups
+        → IsRun (first_session setups) opened.events run.kept run.text run.status) }
+    ensures sound { IfOk result (λ run. (setups : Setups) → opened.regs ≡ registries_of setups
+        → IsLaneSound (first_session setups).lane) }
+    ensures lawful { IfOk result (λ run. HasLawfulBoard run.kept) }
+{
+    let Opened { regs, events } = opened;
+    let session = begin(alloc, regs)?;
+    play(alloc, session, events.view())
+}
+
+// The session of a script before its first event.
+fn begin(alloc: Global, regs: List<MemRegistry>) -> Result<Session<MemRegistry>, Memory>
+    requires eight { length regs ≡ 8 }
+    ensures first { IfOk result (λ session. (setups : Setups) → regs ≡ registries_of setups
+        → session_of session ≡ first_session setups) }
+    ensures sound { IfOk result (λ session. IsLaneSound session.lane) }
+    ensures none { IfOk result (λ session. session.execs ≡ []) }
+{
+    let plan = plan(alloc, &regs.view()[0])?;
+    let Connected { sources, dests } = connect(alloc, regs)?;
+    let session = Session::new(alloc, sources, dests, List::new(alloc), plan, JOB_LIMIT)?;
+    session.is_sound();
+    Ok(session)
+}
+
+// Runs events, and gives their text and what is left.
+fn play(alloc: Global, session: Session<MemRegistry>, events: &[Event]) -> Result<Replayed, Memory>
+    requires scripted { AllByRecursion IsScripted events.now }
+    requires few { length session.execs + length events.now + 1 < 2 ^ 32 }
+    ensures run { IfOk result
+        (λ run. IsRun (session_of session) events.now run.kept run.text run.status) }
+    ensures lawful { IfOk result (λ run. HasLawfulBoard run.kept) }
+{
+    answers_have_texts();
+    let mut session = session;
+    let told = take_events(alloc, &mut session, events)?;
+    let text = print_all(alloc, told.view())?;
+    let status = if session.is_done() { 0 } else { 7 };
+    let Ended {
+        lane,
+        board,
+        stops,
+        ..
+    } = session.end();
+    board.is_lawful();
+    let kept = Ending {
+        lane: Some(lane),
+        board: Some(board),
+        stops,
+    };
+    Ok(Replayed { kept, text, status })
 }
 
 // The refusal with this text, where there is room for it.
@@ -74,110 +152,4 @@ fn bad(text: Result<Bytes, Memory>) -> Refused
         Ok(text) => Refused::Bad { text },
         Err(Memory) => Refused::Memory,
     }
-}
-
-// The registries after the setup lines, and the events.
-fn open_script(
-    alloc: Global,
-    lines: List<Numbered>,
-) -> Result<(Vec<MemRegistry>, List<Event>), Refused>
-    requires { AllByRecursion (λ numbered. IsFit numbered.line) lines }
-    ensures regs { IfOk result
-        (λ opened. after_lines no_contents lines ≡ Ok (contents_of opened.0.items)) }
-    ensures events { IfOk result (λ opened. opened.1 ≡ events_in lines) }
-    ensures eight { IfOk result (λ opened. length opened.0.items ≡ 8) }
-    ensures bad { (said : List ℕ) → result ≡ Err (Refused.Bad said) → (number : ℕ)
-        × (after_lines no_contents lines ≡ Err number)
-        × (said ≡ bad_text number (codes "reference")) }
-{
-    let mut regs = match empty_registries(alloc) {
-        Ok(regs) => regs,
-        Err(Memory) => return Err(Refused::Memory),
-    };
-    let events = match take_lines(alloc, &mut regs, lines) {
-        Ok(events) => events,
-        Err(refused) => return Err(refused),
-    };
-    Ok((regs, events))
-}
-
-// Stores what the setup lines say, and gives the events.
-fn take_lines(
-    alloc: Global,
-    regs: &mut [MemRegistry],
-    lines: List<Numbered>,
-) -> Result<List<Event>, Refused>
-    requires fit { AllByRecursion (λ numbered. IsFit numbered.line) lines }
-    requires eight { length regs.old ≡ 8 }
-    requires well { AllByRecursion IsWell (contents_of regs.old) }
-    ensures regs { OnOk result
-        (after_lines (contents_of regs.old) lines ≡ Ok (contents_of regs.new)) }
-    ensures events { IfOk result (λ events. events ≡ events_in lines) }
-    ensures bad { (said : List ℕ) → result ≡ Err (Refused.Bad said) → (number : ℕ)
-        × (after_lines (contents_of regs.old) lines ≡ Err number)
-        × (said ≡ bad_text number (codes "reference")) }
-{
-    let mut events = List::new(alloc);
-    for Numbered { number, line } in Vec::from(lines) {
-        match take_line(alloc, regs, &mut events, line) {
-            Ok(()) => {}
-            Err(LineRefused::Reference) => return Err(bad(line_lacks_tag(alloc, number))),
-            Err(LineRefused::Memory) => return Err(Refused::Memory),
-        }
-    }
-    Ok(events)
-}
-
-// Eight registries that hold nothing.
-fn empty_registries(alloc: Global) -> Result<Vec<MemRegistry>, Memory>
-    ensures { IfOk result (λ regs. contents_of regs.items ≡ no_contents) }
-{
-    let mut regs = Vec::with_capacity(alloc, REGISTRIES)?;
-    for _reg in 0..REGISTRIES {
-        regs.push(MemRegistry::empty(alloc))?;
-    }
-    Ok(regs)
-}
-
-// Stores what a setup line says, or puts an event at the end.
-fn take_line(
-    alloc: Global,
-    regs: &mut [MemRegistry],
-    events: &mut List<Event>,
-    line: Line,
-) -> Result<(), LineRefused>
-    requires fit { IsFit line }
-    requires eight { length regs.old ≡ 8 }
-    requires plain { AllByRecursion ArePlain (contents_of regs.old) }
-    ensures ok { OnOk result (after_line (contents_of regs.old) line
-        ≡ Some (contents_of regs.new)) }
-    ensures event { OnOk result (events.new ≡ events.old ++ event_in line) }
-    ensures reference { result ≡ Err LineRefused.Reference
-        → after_line (contents_of regs.old) line ≡ None }
-{
-    match line {
-        Line::Event(event) => {
-            events.push(event)?;
-            Ok(())
-        }
-        line => store_line(alloc, regs, line),
-    }
-}
-
-// Runs the events.
-fn run(alloc: Global, regs: Vec<MemRegistry>, events: &List<Event>) -> Result<Replayed, Memory>
-    requires eight { length regs.items ≡ 8 }
-    requires scripted { AllByRecursion IsScripted events.now }
-    ensures { IfOk result
-        (λ run. IsRun (contents_of regs.items) events.now run.kept run.text run.status) }
-{
-    let mut session = Session::new(alloc, regs);
-    let mut text = Vec::new(alloc);
-    for event in events.view() {
-        session.take_event(alloc, *event, &mut text)?;
-    }
-    let status = session.status();
-    let kept = session.end(alloc)?;
-    let text = Bytes::from(text);
-    Ok(Replayed { kept, text, status })
 }

@@ -3,9 +3,11 @@ use Rattle.std.proofs.Common.{◌+◌, ℕ, Bool, true, false, List, [], ◌∷�
 use Rattle.std.specs.Prelude.{⊤}
 use Rattle.std.specs.List.{AllByRecursion}
 use Rattle.hr_base.specs.Bytes.{Text}
+use Rattle.hr_script.specs.Event.{cause_of, finish_of, step_of, stop_of, tags_of, take_of, trigger_of, word_of}
 use Rattle.hr_script.specs.Kind.{kind_in}
-use Rattle.hr_script.specs.Line.{arguments_of, finish_of, image_of, index_of, line_meaning, manifest_of, meaning_of, orphan_of, tags_of, trigger_of, unless_misplaced, where_read}
+use Rattle.hr_script.specs.Line.{arguments_of, break_of, image_of, index_of, line_meaning, manifest_of, meaning_of, orphan_of, unless_misplaced, where_read}
 use Rattle.hr_script.specs.Meaning.{Follows, Meaning, gives, ◌>>=◌}
+use Rattle.hr_script.specs.Planned.{change_of, fault_of}
 use Rattle.hr_script.specs.Progress.{at_start, is_misplaced, progress_after}
 use Rattle.hr_script.specs.Reading.{AreRead, GoesOn, IsReading}
 use Rattle.hr_script.specs.Text.{is_read, lines_of, words_of}
@@ -27,9 +29,17 @@ pub record OfEachKind (P : Line → Type 0) : Type 0 where
   pub index : GivesOnly P index_of
   pub orphan : GivesOnly P orphan_of
   pub manifest : GivesOnly P manifest_of
+  pub broken : GivesOnly P break_of
+  pub fault : (lands : Bool) → GivesOnly P (fault_of lands)
+  pub change : GivesOnly P change_of
   pub trigger : GivesOnly P trigger_of
+  pub take : GivesOnly P take_of
+  pub step : GivesOnly P step_of
+  pub stop : GivesOnly P stop_of
   pub finish : GivesOnly P finish_of
   pub tags : GivesOnly P tags_of
+  pub word : GivesOnly P word_of
+  pub cause : GivesOnly P cause_of
 
 -- what follows from each value that a first meaning gives
 pub through : {A : Type 0} (P : Line → Type 0) (first : Meaning A) (next : A → Meaning Line) → ((a : A) → first (Ok a) → (l : Line) → next a (Ok l) → P l)
@@ -45,9 +55,18 @@ kind_holds P each kinds.Image words l is = each.image words l is
 kind_holds P each kinds.Index words l is = each.index words l is
 kind_holds P each kinds.Orphan words l is = each.orphan words l is
 kind_holds P each kinds.Manifest words l is = each.manifest words l is
+kind_holds P each kinds.Break words l is = each.broken words l is
+kind_holds P each kinds.Fault words l is = each.fault false words l is
+kind_holds P each kinds.Lands words l is = each.fault true words l is
+kind_holds P each kinds.Change words l is = each.change words l is
 kind_holds P each kinds.Trigger words l is = each.trigger words l is
+kind_holds P each kinds.Take words l is = each.take words l is
+kind_holds P each kinds.Step words l is = each.step words l is
+kind_holds P each kinds.Stop words l is = each.stop words l is
 kind_holds P each kinds.Finish words l is = each.finish words l is
 kind_holds P each kinds.Tags words l is = each.tags words l is
+kind_holds P each kinds.Word words l is = each.word words l is
+kind_holds P each kinds.Cause words l is = each.cause words l is
 kind_holds P each kinds.Later words l is = cc is
 
 placed_holds : (P : Line → Type 0) → OfEachKind P → (misplaced : Bool) (kind : Kind) (words : List Text) (l : Line)

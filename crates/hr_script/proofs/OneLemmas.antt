@@ -1,13 +1,14 @@
 -- Each meaning has one right answer and no other, and so has each text.
 use Rattle.std.proofs.Common.{◌≡◌, ◌+◌, ℕ, Bool, true, false, List, [], ◌∷◌, Option, Some, None, Result, Ok, Err, refl, sym, ap, ◌∙◌, subst}
 use Rattle.hr_base.specs.Bytes.{Text}
+use Rattle.hr_base.specs.declared.number.JobNo.{JobNo}
 use Rattle.hr_base.specs.declared.number.PolicyNo.{PolicyNo}
 use Rattle.hr_base.specs.declared.number.RegNo.{RegNo}
 use Rattle.hr_event.specs.declared.event.Event.TheVariants as event
 use Rattle.hr_script.specs.declared.kind.Kind.{Kind}
 use Rattle.hr_script.specs.declared.kind.Kind.TheVariants as kinds
 use Rattle.hr_script.specs.declared.line.Line.{Line}
-use Rattle.hr_script.specs.declared.line.Line.TheVariants.{Image, Index, Orphan, Event}
+use Rattle.hr_script.specs.declared.line.Line.TheVariants.{Image, Index, Orphan, Break, Fault, Change, Event}
 use Rattle.hr_script.specs.declared.reading.Lines.{Lines}
 use Rattle.hr_script.specs.declared.refusal.Why.{Why}
 use Rattle.hr_script.specs.declared.refusal.Why.TheVariants as why
@@ -15,12 +16,14 @@ use Rattle.hr_text.proofs.HexLaws.{spelled_once}
 use Rattle.hr_text.proofs.NumberLaws.{one_number}
 use Rattle.hr_script.specs.declared.progress.Progress.{Progress}
 use Rattle.hr_script.specs.Kind.{kind_in, kind_of}
-use Rattle.hr_script.specs.Line.{arguments_of, finish_of, image_of, index_of, line_meaning, manifest_of, meaning_of, orphan_of, tags_of, trigger_of, unless_misplaced, where_read}
+use Rattle.hr_script.specs.Event.{cause_of, finish_of, only_job, step_of, stop_of, tags_of, take_of, trigger_of, word_of}
+use Rattle.hr_script.specs.Line.{arguments_of, break_of, image_of, index_of, line_meaning, manifest_of, meaning_of, orphan_of, unless_misplaced, where_read}
 use Rattle.hr_script.specs.Meaning.{Follows, Meaning, each, stands_for, ◌>>=◌}
+use Rattle.hr_script.specs.Planned.{change_of, fault_of}
 use Rattle.hr_script.specs.Reading.{AreRead, GoesOn, IsReading, nothing, stopped, with_line}
 use Rattle.hr_script.specs.Progress.{at_start, is_misplaced, progress_after}
 use Rattle.hr_script.specs.Text.{is_read, lines_of, words_of}
-use Rattle.hr_script.specs.Word.{IsLayerWord, IsMedia, IsNameWord, IsRegistry, IsSmallNumber, IsTagWord, layer_in, media_in, name_in, policy_in, registry_in, tag_in}
+use Rattle.hr_script.specs.Word.{IsLayerWord, IsMedia, IsNameWord, IsOperation, IsRegistry, IsRevision, IsSmallNumber, IsTagWord, job_in, lane_in, lane_numbered, layer_in, media_in, name_in, operation_in, policy_in, registry_in, revision_in, small_in, tag_in}
 
 -- two right answers are equal, and there is no want of one
 pub record IsOne {A : Type 0} (meaning : Meaning A) : Type 0 where
@@ -73,6 +76,24 @@ one_policy word = one_value (λ (policy : PolicyNo). IsSmallNumber word policy.0
     let made : ℕ → PolicyNo = λ n. record { 0 = n } in
     ap made e)
 
+one_job : (word : Text) → IsOne (job_in word)
+one_job word = one_value (λ (job : JobNo). IsSmallNumber word job.0) why.Number (λ one other h k.
+    let e : one.0 ≡ other.0 = one_number word one.0 other.0 h.written k.written in
+    let made : ℕ → JobNo = λ n. record { 0 = n } in
+    ap made e)
+
+one_revision : (word : Text) → IsOne (revision_in word)
+one_revision word = one_value (IsRevision word) why.Number (λ one other h k. one_number word one other h.number.written k.number.written)
+
+one_operation : (word : Text) → IsOne (operation_in word)
+one_operation word = one_value (IsOperation word) why.Number (λ one other h k. one_number word one other h.number.written k.number.written)
+
+one_small : (word : Text) → IsOne (small_in word)
+one_small word = one_value (IsSmallNumber word) why.Number (λ one other h k. one_number word one other h.written k.written)
+
+one_lane : (word : Text) → IsOne (lane_in word)
+one_lane word = one_chain (small_in word) _ (one_small word) (λ number. one_equal (lane_numbered number))
+
 one_name : (word : Text) → IsOne (name_in word)
 one_name word = one_value (IsNameWord word) why.Name (λ one other h k. h.same ∙ sym k.same)
 
@@ -107,6 +128,21 @@ one_manifest (reg ∷ repo ∷ tag ∷ media ∷ first ∷ others) =
     one_chain (registry_in reg) _ (one_registry reg) (λ a. one_chain (name_in repo) _ (one_name repo) (λ b. one_chain (tag_in tag) _ (one_tag tag) (λ d. one_chain (media_in media) _ (one_media media) (λ e. one_equal _))))
 one_manifest _ = one_equal (Err why.Count)
 
+one_break : (words : List Text) → IsOne (break_of words)
+one_break (reg ∷ repo ∷ honest ∷ stored ∷ []) =
+    one_chain (registry_in reg) _ (one_registry reg) (λ a. one_chain (name_in repo) _ (one_name repo) (λ b. one_chain (layer_in honest) _ (one_layer honest) (λ d. one_chain (layer_in stored) _ (one_layer stored) (λ e. one_equal (Ok (Break a b d e))))))
+one_break _ = one_equal (Err why.Count)
+
+one_fault : (lands : Bool) (words : List Text) → IsOne (fault_of lands words)
+one_fault lands (lane ∷ reg ∷ op ∷ []) =
+    one_chain (lane_in lane) _ (one_lane lane) (λ a. one_chain (registry_in reg) _ (one_registry reg) (λ b. one_chain (operation_in op) _ (one_operation op) (λ d. one_equal (Ok (Fault a b d lands)))))
+one_fault lands _ = one_equal (Err why.Count)
+
+one_change : (words : List Text) → IsOne (change_of words)
+one_change (lane ∷ reg ∷ op ∷ repo ∷ tag ∷ to ∷ []) =
+    one_chain (lane_in lane) _ (one_lane lane) (λ a. one_chain (registry_in reg) _ (one_registry reg) (λ b. one_chain (operation_in op) _ (one_operation op) (λ d. one_chain (name_in repo) _ (one_name repo) (λ e. one_chain (tag_in tag) _ (one_tag tag) (λ f. one_chain (tag_in to) _ (one_tag to) (λ g. one_equal (Ok (Change a b d e f g))))))))
+one_change _ = one_equal (Err why.Count)
+
 one_trigger : (words : List Text) → IsOne (trigger_of words)
 one_trigger (policy ∷ []) = one_chain (policy_in policy) _ (one_policy policy) (λ a. one_equal (Ok (Event (event.Trigger a))))
 one_trigger _ = one_equal (Err why.Count)
@@ -119,14 +155,44 @@ one_tags : (words : List Text) → IsOne (tags_of words)
 one_tags (reg ∷ []) = one_chain (registry_in reg) _ (one_registry reg) (λ a. one_equal (Ok (Event (event.Tags a))))
 one_tags _ = one_equal (Err why.Count)
 
+one_take : (words : List Text) → IsOne (take_of words)
+one_take [] = one_equal (Ok (Event event.Take))
+one_take _ = one_equal (Err why.Count)
+
+one_word : (words : List Text) → IsOne (word_of words)
+one_word (job ∷ rev ∷ []) = one_chain (job_in job) _ (one_job job) (λ a. one_chain (revision_in rev) _ (one_revision rev) (λ b. one_equal (Ok (Event (event.Word a b)))))
+one_word _ = one_equal (Err why.Count)
+
+one_only_job : (words : List Text) → IsOne (only_job words)
+one_only_job (job ∷ []) = one_job job
+one_only_job _ = one_equal (Err why.Count)
+
+one_step : (words : List Text) → IsOne (step_of words)
+one_step words = one_chain (only_job words) _ (one_only_job words) (λ a. one_equal (Ok (Event (event.Step a))))
+
+one_stop : (words : List Text) → IsOne (stop_of words)
+one_stop words = one_chain (only_job words) _ (one_only_job words) (λ a. one_equal (Ok (Event (event.Stop a))))
+
+one_cause : (words : List Text) → IsOne (cause_of words)
+one_cause words = one_chain (only_job words) _ (one_only_job words) (λ a. one_equal (Ok (Event (event.CauseOf a))))
+
 one_arguments : (kind : Kind) (words : List Text) → IsOne (arguments_of kind words)
 one_arguments kinds.Image words = one_image words
 one_arguments kinds.Index words = one_index words
 one_arguments kinds.Orphan words = one_orphan words
 one_arguments kinds.Manifest words = one_manifest words
+one_arguments kinds.Break words = one_break words
+one_arguments kinds.Fault words = one_fault false words
+one_arguments kinds.Lands words = one_fault true words
+one_arguments kinds.Change words = one_change words
 one_arguments kinds.Trigger words = one_trigger words
+one_arguments kinds.Take words = one_take words
+one_arguments kinds.Step words = one_step words
+one_arguments kinds.Stop words = one_stop words
 one_arguments kinds.Finish words = one_finish words
 one_arguments kinds.Tags words = one_tags words
+one_arguments kinds.Word words = one_word words
+one_arguments kinds.Cause words = one_cause words
 one_arguments kinds.Later words = one_equal (Err why.NotYet)
 
 one_placed : (misplaced : Bool) (meaning : Meaning Line) → IsOne meaning → IsOne (unless_misplaced misplaced meaning)

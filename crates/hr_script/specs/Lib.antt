@@ -1,6 +1,8 @@
+pub mod Event
 pub mod Kind
 pub mod Line
 pub mod Meaning
+pub mod Planned
 pub mod Progress
 pub mod Reading
 pub mod Text

@@ -2,18 +2,19 @@
 use Rattle.std.specs.Prelude.{Bool, true, false, List, [], ◌∷◌, Option, Some, None}
 use Rattle.std.specs.List.{join_with_byte}
 use Rattle.hr_base.specs.Bytes.{Text}
-use Rattle.hr_event.specs.declared.event.Event.TheVariants as event
 use Rattle.hr_script.specs.declared.kind.Kind.{Kind}
 use Rattle.hr_script.specs.declared.kind.Kind.TheVariants as kinds
 use Rattle.hr_script.specs.declared.line.Line.{Line}
-use Rattle.hr_script.specs.declared.line.Line.TheVariants.{Image, Index, Orphan, Manifest, Event}
+use Rattle.hr_script.specs.declared.line.Line.TheVariants.{Image, Index, Orphan, Manifest, Break}
 use Rattle.hr_script.specs.declared.refusal.Why.TheVariants as why
 use Rattle.hr_script.specs.declared.progress.Progress.{Progress}
+use Rattle.hr_script.specs.Event.{cause_of, finish_of, step_of, stop_of, tags_of, take_of, trigger_of, word_of}
 use Rattle.hr_script.specs.Kind.{kind_in}
 use Rattle.hr_script.specs.Meaning.{Meaning, gives, refuses, each, ◌>>=◌}
+use Rattle.hr_script.specs.Planned.{change_of, fault_of}
 use Rattle.hr_script.specs.Progress.{is_misplaced}
 use Rattle.hr_script.specs.Text.{is_read, words_of}
-use Rattle.hr_script.specs.Word.{registry_in, policy_in, name_in, tag_in, layer_in, media_in}
+use Rattle.hr_script.specs.Word.{registry_in, name_in, tag_in, layer_in, media_in}
 
 -- what the words behind `image` mean
 abbrev pub image_of : List Text → Meaning Line
@@ -54,24 +55,15 @@ manifest_of (reg ∷ repo ∷ tag ∷ media ∷ first ∷ others) = do
   gives (Manifest reg repo tag media (join_with_byte 32 (first ∷ others)))
 manifest_of _ = refuses why.Count
 
--- what the words behind `trigger` mean
-abbrev pub trigger_of : List Text → Meaning Line
-trigger_of (policy ∷ []) = do
-  policy ← policy_in policy
-  gives (Event (event.Trigger policy))
-trigger_of _ = refuses why.Count
-
--- what the words behind `finish` mean, of which there are none
-abbrev pub finish_of : List Text → Meaning Line
-finish_of [] = gives (Event event.Finish)
-finish_of _ = refuses why.Count
-
--- what the words behind `tags` mean
-abbrev pub tags_of : List Text → Meaning Line
-tags_of (reg ∷ []) = do
+-- what the words behind `break` mean
+abbrev pub break_of : List Text → Meaning Line
+break_of (reg ∷ repo ∷ honest ∷ stored ∷ []) = do
   reg ← registry_in reg
-  gives (Event (event.Tags reg))
-tags_of _ = refuses why.Count
+  repo ← name_in repo
+  honest ← layer_in honest
+  stored ← layer_in stored
+  gives (Break reg repo honest stored)
+break_of _ = refuses why.Count
 
 -- what the words behind the first one mean in a line of this kind
 abbrev pub arguments_of : Kind → List Text → Meaning Line
@@ -79,9 +71,18 @@ arguments_of kinds.Image words = image_of words
 arguments_of kinds.Index words = index_of words
 arguments_of kinds.Orphan words = orphan_of words
 arguments_of kinds.Manifest words = manifest_of words
+arguments_of kinds.Break words = break_of words
+arguments_of kinds.Fault words = fault_of false words
+arguments_of kinds.Lands words = fault_of true words
+arguments_of kinds.Change words = change_of words
 arguments_of kinds.Trigger words = trigger_of words
+arguments_of kinds.Take words = take_of words
+arguments_of kinds.Step words = step_of words
+arguments_of kinds.Stop words = stop_of words
 arguments_of kinds.Finish words = finish_of words
 arguments_of kinds.Tags words = tags_of words
+arguments_of kinds.Word words = word_of words
+arguments_of kinds.Cause words = cause_of words
 arguments_of kinds.Later words = refuses why.NotYet
 
 -- a meaning where the line may stand where it stands, and why not where it may not

@@ -1,18 +1,21 @@
 //! What the words behind the first one of a line mean, by the line's kind. (Our own.)
 ghost use Rattle.std.specs.Option.{option_copied};
-ghost use Rattle.hr_script.specs.Line.{arguments_of, finish_of, image_of, index_of, manifest_of, meaning_of, orphan_of, tags_of, trigger_of};
+ghost use Rattle.hr_script.specs.Line.{arguments_of, break_of, image_of, index_of, manifest_of, meaning_of, orphan_of};
 ghost use Rattle.hr_script.specs.Meaning.{Answers, each};
 ghost use Rattle.hr_script.specs.Text.{words_left, words_of};
 ghost use Rattle.hr_script.specs.Word.{layer_in, tag_in};
 
+use crate::event::{
+    read_cause, read_finish, read_step, read_stop, read_tags, read_take, read_trigger, read_word,
+};
 use crate::kind::Kind;
 use crate::line::Line;
+use crate::planned::{read_change, read_fault};
 use crate::progress::Progress;
 use crate::refusal::{Refused, Why};
 use crate::split::{end_words, split_word, take_word};
-use crate::word::{read_layer, read_media, read_name, read_policy, read_registry, read_tag};
+use crate::word::{read_layer, read_media, read_name, read_registry, read_tag};
 use hr_base::{Bytes, List};
-use hr_event::Event;
 use hr_name::Tag;
 use std::alloc::Global;
 
@@ -37,9 +40,18 @@ fn read_arguments(alloc: Global, kind: Kind, words: Option<&[u8]>) -> Result<Lin
         Kind::Index => read_index(alloc, words),
         Kind::Orphan => read_orphan(alloc, words),
         Kind::Manifest => read_manifest(alloc, words),
+        Kind::Break => read_break(alloc, words),
+        Kind::Fault => read_fault(words, false),
+        Kind::Lands => read_fault(words, true),
+        Kind::Change => read_change(alloc, words),
         Kind::Trigger => read_trigger(words),
+        Kind::Take => read_take(words),
+        Kind::Step => read_step(words),
+        Kind::Stop => read_stop(words),
         Kind::Finish => read_finish(words),
         Kind::Tags => read_tags(words),
+        Kind::Word => read_word(words),
+        Kind::Cause => read_cause(words),
         Kind::Later => Err(Refused::Bad(Why::NotYet)),
     }
 }
@@ -103,29 +115,20 @@ fn read_manifest(alloc: Global, words: Option<&[u8]>) -> Result<Line, Refused>
     })
 }
 
-fn read_trigger(words: Option<&[u8]>) -> Result<Line, Refused>
-    ensures { Answers (trigger_of (words_left (option_copied words.entry))) result }
-{
-    let (policy, words) = take_word(words)?;
-    end_words(words)?;
-    let policy = read_policy(policy)?;
-    Ok(Line::Event(Event::Trigger { policy }))
-}
-
-fn read_finish(words: Option<&[u8]>) -> Result<Line, Refused>
-    ensures { Answers (finish_of (words_left (option_copied words.entry))) result }
-{
-    end_words(words)?;
-    Ok(Line::Event(Event::Finish))
-}
-
-fn read_tags(words: Option<&[u8]>) -> Result<Line, Refused>
-    ensures { Answers (tags_of (words_left (option_copied words.entry))) result }
+fn read_break(alloc: Global, words: Option<&[u8]>) -> Result<Line, Refused>
+    ensures { Answers (break_of (words_left (option_copied words.entry))) result }
 {
     let (reg, words) = take_word(words)?;
+    let (repo, words) = take_word(words)?;
+    let (honest, words) = take_word(words)?;
+    let (stored, words) = take_word(words)?;
     end_words(words)?;
-    let reg = read_registry(reg)?;
-    Ok(Line::Event(Event::Tags { reg }))
+    Ok(Line::Break {
+        reg: read_registry(reg)?,
+        repo: read_name(alloc, repo)?,
+        honest: read_layer(alloc, honest)?,
+        stored: read_layer(alloc, stored)?,
+    })
 }
 
 // The layers that the words left of a line write.

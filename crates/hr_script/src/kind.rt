@@ -1,6 +1,6 @@
 //! The first words of lines. (Our own.)
 ghost use Rattle.std.specs.Prelude.{◌≡◌};
-ghost use Rattle.hr_script.specs.Kind.{is_later, is_one_of, is_setup, kind_of, later_events, later_setup};
+ghost use Rattle.hr_script.specs.Kind.{event_kind, is_later, is_one_of, is_setup, kind_of, later_events, later_setup, setup_kind};
 
 use crate::refusal::Why;
 
@@ -11,9 +11,18 @@ pub(crate) enum Kind {
     Index,
     Orphan,
     Manifest,
+    Break,
+    Fault,
+    Lands,
+    Change,
     Trigger,
+    Take,
+    Step,
+    Stop,
     Finish,
     Tags,
+    Word,
+    Cause,
     /// Lines of the language that are not read yet.
     Later,
 }
@@ -23,26 +32,11 @@ impl Kind {
     pub(crate) fn of(word: &[u8]) -> Result<Kind, Why>
         ensures { result ≡ kind_of word.now }
     {
-        if word == b"image".as_slice() {
-            return Ok(Kind::Image);
+        if let Some(kind) = setup_kind(word) {
+            return Ok(kind);
         }
-        if word == b"index".as_slice() {
-            return Ok(Kind::Index);
-        }
-        if word == b"orphan".as_slice() {
-            return Ok(Kind::Orphan);
-        }
-        if word == b"manifest".as_slice() {
-            return Ok(Kind::Manifest);
-        }
-        if word == b"trigger".as_slice() {
-            return Ok(Kind::Trigger);
-        }
-        if word == b"finish".as_slice() {
-            return Ok(Kind::Finish);
-        }
-        if word == b"tags".as_slice() {
-            return Ok(Kind::Tags);
+        if let Some(kind) = event_kind(word) {
+            return Ok(kind);
         }
         if is_later(word) {
             return Ok(Kind::Later);
@@ -54,11 +48,74 @@ impl Kind {
     pub(crate) fn is_setup(self) -> bool
         ensures { result ≡ is_setup self }
     {
-        matches!(
-            self,
-            Kind::Image | Kind::Index | Kind::Orphan | Kind::Manifest
-        )
+        match self {
+            Kind::Image | Kind::Index | Kind::Orphan | Kind::Manifest => true,
+            Kind::Break | Kind::Fault | Kind::Lands | Kind::Change => true,
+            _ => false,
+        }
     }
+}
+
+// The kind of the setup lines that a word begins.
+fn setup_kind(word: &[u8]) -> Option<Kind>
+    ensures { result ≡ setup_kind word.now }
+{
+    if word == b"image".as_slice() {
+        return Some(Kind::Image);
+    }
+    if word == b"index".as_slice() {
+        return Some(Kind::Index);
+    }
+    if word == b"orphan".as_slice() {
+        return Some(Kind::Orphan);
+    }
+    if word == b"manifest".as_slice() {
+        return Some(Kind::Manifest);
+    }
+    if word == b"break".as_slice() {
+        return Some(Kind::Break);
+    }
+    if word == b"fault".as_slice() {
+        return Some(Kind::Fault);
+    }
+    if word == b"lands".as_slice() {
+        return Some(Kind::Lands);
+    }
+    if word == b"change".as_slice() {
+        return Some(Kind::Change);
+    }
+    None
+}
+
+// The kind of the events that a word begins.
+fn event_kind(word: &[u8]) -> Option<Kind>
+    ensures { result ≡ event_kind word.now }
+{
+    if word == b"trigger".as_slice() {
+        return Some(Kind::Trigger);
+    }
+    if word == b"take".as_slice() {
+        return Some(Kind::Take);
+    }
+    if word == b"step".as_slice() {
+        return Some(Kind::Step);
+    }
+    if word == b"stop".as_slice() {
+        return Some(Kind::Stop);
+    }
+    if word == b"finish".as_slice() {
+        return Some(Kind::Finish);
+    }
+    if word == b"tags".as_slice() {
+        return Some(Kind::Tags);
+    }
+    if word == b"word".as_slice() {
+        return Some(Kind::Word);
+    }
+    if word == b"cause".as_slice() {
+        return Some(Kind::Cause);
+    }
+    None
 }
 
 // Whether a word of the language begins lines that are not read yet.
@@ -76,11 +133,8 @@ fn is_later_setup(word: &[u8]) -> bool
         || word == b"jobs".as_slice()
         || word == b"policy".as_slice()
         || word == b"schedule".as_slice()
-        || word == b"break".as_slice()
         || word == b"label".as_slice()
-        || word == b"fault".as_slice()
-        || word == b"lands".as_slice()
-        || word == b"change".as_slice()
+        || word == b"conflict".as_slice()
 }
 
 // Whether a word begins events that are not read yet.
@@ -88,16 +142,11 @@ fn is_later_event(word: &[u8]) -> bool
     ensures { result ≡ is_one_of later_events word.now }
 {
     word == b"due".as_slice()
-        || word == b"take".as_slice()
-        || word == b"step".as_slice()
         || word == b"settle".as_slice()
-        || word == b"stop".as_slice()
         || word == b"deliver".as_slice()
         || word == b"forge".as_slice()
         || word == b"wait".as_slice()
         || word == b"sweep".as_slice()
         || word == b"row".as_slice()
         || word == b"exec".as_slice()
-        || word == b"word".as_slice()
-        || word == b"cause".as_slice()
 }

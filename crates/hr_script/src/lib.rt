@@ -3,8 +3,10 @@
 #![tactic(auto)]
 
 mod argument;
+mod event;
 mod kind;
 mod line;
+mod planned;
 mod progress;
 mod reading;
 mod refusal;

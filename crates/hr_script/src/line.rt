@@ -39,7 +39,34 @@ pub enum Line {
         media: Bytes,
         text: Bytes,
     },
-    /// An event: today `Trigger`, `Finish` or `Tags`.
+    /// Stores bytes as the blob with the digest of other ones, the honest; both have one byte or
+    /// more.
+    Break {
+        reg: RegNo,
+        repo: Name,
+        honest: Bytes,
+        stored: Bytes,
+    },
+    /// An operation of a lane's connection to the registry fails; where it lands and is a put, it
+    /// takes effect all the same. Operations are counted from 1. Today the lane is 0.
+    Fault {
+        lane: u32,
+        reg: RegNo,
+        op: u32,
+        lands: bool,
+    },
+    /// Just before such an operation the first tag, which may be new, is made to name what the
+    /// second one names at this line.
+    Change {
+        lane: u32,
+        reg: RegNo,
+        op: u32,
+        repo: Name,
+        tag: Tag,
+        to: Tag,
+    },
+    /// An event: today `Trigger`, `Take`, `Step`, `Stop`, `Finish`, `Tags`, `Word` or `CauseOf`. The
+    /// number of a revision is 0 to 3.
     Event(Event),
 }
 

@@ -23,7 +23,8 @@ pub enum Why {
     Hex,
     /// A media type has a byte that JSON escapes.
     Policy,
-    /// It has a word of the language for what is not built yet. Today that is a first word alone.
+    /// It has a word of the language for what is not built yet. Today that is a first word, or
+    /// another lane than 0.
     NotYet,
 }
 

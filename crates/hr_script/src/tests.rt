@@ -13,15 +13,17 @@ fn read(alloc: Global, text: &[u8]) -> Result<Lines, Fail> {
 #[test]
 fn each_kind_of_line_is_read(rt: HostRuntime) -> Result<(), Fail> {
     let text = b"# one\nimage 8 library/app v1.2 7b7d 00ff\n\nindex 1 app all a _b\norphan 2 app\n\
-        manifest 1 app t m {\"a\": 1,  \"b\":2 }\ntrigger 4294967295\nfinish\ntags 8";
+        manifest 1 app t m {\"a\": 1,  \"b\":2 }\nbreak 1 app 00ff 7b7d\nfault 0 2 1\n\
+        lands 0 2 4294967295\nchange 0 1 3 app all new\ntrigger 4294967295\ntake\nstep 1\nstop 0\n\
+        finish\ntags 8\nword 4294967295 3\ncause 1";
     let Lines { lines, fault } = read(rt.alloc(), text)?;
     assert_eq!(rt; fault, None);
-    assert_eq!(rt; lines.view().len(), 7);
+    assert_eq!(rt; lines.view().len(), 16);
     Ok(())
 }
 
 // Why each of these texts is refused, and at which line.
-fn refusals() -> [(&'static [u8], u32, Why); 49] {
+fn refusals() -> [(&'static [u8], u32, Why); 72] {
     [
         (b"images 1 app t", 1, Why::Word),
         (b"Image 1 app t", 1, Why::Word),
@@ -29,22 +31,32 @@ fn refusals() -> [(&'static [u8], u32, Why); 49] {
         (b" ", 1, Why::Word),
         (b"\r\n", 1, Why::Word),
         (b"finish\r\n", 1, Why::Word),
-        (b"step 4294967296", 1, Why::NotYet),
         (b"lanes", 1, Why::NotYet),
-        (b"cause", 1, Why::NotYet),
-        (b"change 1", 1, Why::NotYet),
         (b"due", 1, Why::NotYet),
+        (b"conflict", 1, Why::NotYet),
         (b"finish\nimage 9 A", 2, Why::Order),
         (b"finish\nlabel 9 A", 2, Why::NotYet),
         (b"tags 1\nindex", 2, Why::Order),
         (b"trigger 1\n\norphan 1 app", 3, Why::Order),
         (b"trigger 1\nmanifest 1 app t m x", 2, Why::Order),
+        (b"take\nbreak 9 A", 2, Why::Order),
+        (b"step 1\nfault", 2, Why::Order),
+        (b"stop 1\nlands x", 2, Why::Order),
+        (b"cause 1\nchange 0 1", 2, Why::Order),
         (b"image 9 A", 1, Why::Count),
         (b"image", 1, Why::Count),
         (b"index 1 app", 1, Why::Count),
         (b"orphan 9", 1, Why::Count),
         (b"manifest 1 a t m", 1, Why::Count),
         (b"manifest 9 A", 1, Why::Count),
+        (b"break 1 app 7b", 1, Why::Count),
+        (b"fault 1 1 1 1", 1, Why::Count),
+        (b"lands x 1", 1, Why::Count),
+        (b"change 9 1 1 app t", 1, Why::Count),
+        (b"take ", 1, Why::Count),
+        (b"step", 1, Why::Count),
+        (b"cause 1 1", 1, Why::Count),
+        (b"word x", 1, Why::Count),
         (b"trigger", 1, Why::Count),
         (b"trigger x 1", 1, Why::Count),
         (b"finish 1", 1, Why::Count),
@@ -54,6 +66,15 @@ fn refusals() -> [(&'static [u8], u32, Why); 49] {
         (b"image 9 A -x 7", 1, Why::Number),
         (b"index 01 A -x -x", 1, Why::Number),
         (b"image  app v1", 1, Why::Number),
+        (b"break 9 A 7 7", 1, Why::Number),
+        (b"fault x 1 1", 1, Why::Number),
+        (b"fault 1 9 0", 1, Why::NotYet),
+        (b"change 4294967295 1 1 app t t", 1, Why::NotYet),
+        (b"fault 0 9 0", 1, Why::Number),
+        (b"lands 0 1 0", 1, Why::Number),
+        (b"change 4294967296 1 1 app t t", 1, Why::Number),
+        (b"stop 4294967296", 1, Why::Number),
+        (b"word 1 4", 1, Why::Number),
         (b"trigger 4294967296", 1, Why::Number),
         (b"trigger 99999999999999999999999", 1, Why::Number),
         (b"trigger 01", 1, Why::Number),
@@ -64,8 +85,12 @@ fn refusals() -> [(&'static [u8], u32, Why); 49] {
         (b"image 1 library/Hello v1 7b7d", 1, Why::Name),
         (b"orphan 1 Hello 7", 1, Why::Name),
         (b"manifest 1  t m x", 1, Why::Name),
+        (b"change 0 1 1 A -x -x", 1, Why::Name),
+        (b"change 0 1 1 app x -x", 1, Why::Tag),
         (b"image 1 app -x 7", 1, Why::Tag),
         (b"index 1 app t a -x", 1, Why::Tag),
+        (b"break 1 app 7b 7", 1, Why::Hex),
+        (b"break 1 app  7b", 1, Why::Hex),
         (b"image 1 app t 7", 1, Why::Hex),
         (b"image 1 app t 7B", 1, Why::Hex),
         (b"image 1 app t 7b ", 1, Why::Hex),

@@ -2,10 +2,10 @@
 //! Distribution 1.1, "Pulling manifests".)
 ghost use Rattle.std.specs.Prelude.{◌≡◌, IfSome, IfNone, ℕ};
 ghost use Rattle.hr_script.specs.Meaning.{Answers};
-ghost use Rattle.hr_script.specs.Word.{IsSmallNumber, layer_in, media_in, name_in, policy_in, registry_in, tag_in};
+ghost use Rattle.hr_script.specs.Word.{IsSmallNumber, job_in, lane_in, lane_numbered, layer_in, media_in, name_in, operation_in, policy_in, registry_in, revision_in, small_in, tag_in};
 
 use crate::refusal::{Refused, Why};
-use hr_base::{Bytes, Memory, PolicyNo, RegNo};
+use hr_base::{Bytes, JobNo, Memory, PolicyNo, RegNo};
 use hr_name::{Name, NameRefused, Tag};
 use hr_text::{is_unescaped, read_hex, read_number};
 use std::alloc::Global;
@@ -41,6 +41,64 @@ pub(crate) fn read_policy(word: &[u8]) -> Result<PolicyNo, Refused>
     }
 }
 
+/// The number of a job, any below 2^32.
+pub(crate) fn read_job(word: &[u8]) -> Result<JobNo, Refused>
+    ensures { Answers (job_in word.now) result }
+{
+    match number_in(word) {
+        Some(number) => Ok(JobNo(number)),
+        None => Err(Refused::Bad(Why::Number)),
+    }
+}
+
+/// The number of a revision, 0 to 3.
+pub(crate) fn read_revision(word: &[u8]) -> Result<u8, Refused>
+    ensures { Answers (revision_in word.now) result }
+{
+    match number_in(word) {
+        Some(number) if number <= 3 => Ok(number as u8),
+        _ => Err(Refused::Bad(Why::Number)),
+    }
+}
+
+/// The number of an operation, from 1.
+pub(crate) fn read_operation(word: &[u8]) -> Result<u32, Refused>
+    ensures { Answers (operation_in word.now) result }
+{
+    match number_in(word) {
+        Some(number) if 1 <= number => Ok(number),
+        _ => Err(Refused::Bad(Why::Number)),
+    }
+}
+
+/// The number of a lane, which today is 0.
+pub(crate) fn read_lane(word: &[u8]) -> Result<u32, Refused>
+    ensures { Answers (lane_in word.now) result }
+{
+    let number = read_small(word)?;
+    match lane_numbered(number) {
+        Ok(lane) => Ok(lane),
+        Err(why) => Err(Refused::Bad(why)),
+    }
+}
+
+// The lane of a number: today there is lane 0 alone.
+fn lane_numbered(number: u32) -> Result<u32, Why>
+    ensures { result ≡ lane_numbered number }
+{
+    if number == 0 { Ok(0) } else { Err(Why::NotYet) }
+}
+
+// Any number below 2^32.
+fn read_small(word: &[u8]) -> Result<u32, Refused>
+    ensures { Answers (small_in word.now) result }
+{
+    match number_in(word) {
+        Some(number) => Ok(number),
+        None => Err(Refused::Bad(Why::Number)),
+    }
+}
+
 /// The name of a repository.
 pub(crate) fn read_name(alloc: Global, word: &[u8]) -> Result<Name, Refused>
     ensures { Answers (name_in word.now) result }
@@ -65,7 +123,7 @@ pub(crate) fn read_tag(alloc: Global, word: &[u8]) -> Result<Tag, Refused>
     }
 }
 
-/// The bytes of a layer, at least one, in lower-case hexadecimal.
+/// The bytes of a layer or of another blob, at least one, in lower-case hexadecimal.
 pub(crate) fn read_layer(alloc: Global, word: &[u8]) -> Result<Bytes, Refused>
     ensures { Answers (layer_in word.now) result }
 {

@@ -1,5 +1,5 @@
 -- A file that is too long to be a configuration.
-use Rattle.std.proofs.Common.{◌≡◌, ◌<◌, ◌≤◌, ◌⊎◌, ℕ, zero, suc, Bool, false, nat_le, List, [], ◌∷◌, length, Option, Some, None, IfSome, Ok, Err, inr, ⊎_elim, refl, ap, arith}
+use Rattle.std.proofs.Common.{◌≡◌, ◌<◌, ◌⊎◌, ℕ, zero, suc, false, nat_le, [], ◌∷◌, length, Option, Some, None, IfSome, Err, inr, ⊎_elim, refl, ap, arith}
 use Rattle.std.specs.Option.{option_map}
 use Rattle.std.proofs.lemmas.Bool.Decides.{nat_tests}
 use Rattle.hr_base.specs.Bytes.{ByteList, Text}

@@ -11,8 +11,8 @@ use Rattle.hr_top.specs.Outcome.{Comes, sent_status_of, text_of, unsent_status_o
 use Rattle.hr_top.specs.declared.outcome.Outcome.{Outcome}
 use Rattle.hr_top.specs.declared.outcome.Outcome.TheVariants.{Replayed, Checked, Usage, Bad, TooLong, Unfit, Faulted, TreeFaulted, Memory}
 use Rattle.hr_replay.specs.Replay.{HasStatus}
-use Rattle.hr_replay.specs.Run.{State}
-use Rattle.hr_replay.specs.declared.session.Ending.{Ending}
+use Rattle.hr_session.specs.State.{Session}
+use Rattle.hr_replay.specs.declared.ending.Ending.{Ending}
 
 -- there is one word, and it is this text
 pub one_word : (words : List (List ℕ)) (word v s : List ℕ) (r : Bool) → 1 ≤ length words → length words < 2 → word ≡ get_or words 0 word → v ≡ word → r ≡ pointwise nat_eq v s
@@ -28,7 +28,7 @@ one_word (w ∷ x ∷ more) word v s r some few is view eq = absurd (omega arith
 
 -- ---- the status
 
-zero_or_seven : (state : State) (status : ℕ) → HasStatus state status → (status ≡ 0) ⊎ (status ≡ 7)
+zero_or_seven : (state : Session) (status : ℕ) → HasStatus state status → (status ≡ 0) ⊎ (status ≡ 7)
 zero_or_seven state status has = ⊎_elim (λ done. inl done.1) (λ failed. inr failed.1) has
 
 pub sent_status_is : (outcome : Outcome) (words : List Text) (before now : Option ByteList) (files : Option Files) (faults faults' tree tree' : ℕ) (kept : Ending) → Comes outcome words before now files faults faults' tree tree' kept
@@ -37,7 +37,7 @@ sent_status_is (Replayed text status) words before now files faults faults' tree
     ⊎_elim
     (λ zero. subst IsStatus (sym zero) (0, omega arith, refl))
     (λ seven. subst IsStatus (sym seven) (6, omega arith, refl))
-    (zero_or_seven comes.0.run.state status comes.0.run.ends)
+    (zero_or_seven comes.0.run.run.after status comes.0.run.run.ends)
 sent_status_is (Checked text) words before now files faults faults' tree tree' kept comes = (0, omega arith, refl)
 sent_status_is Usage words before now files faults faults' tree tree' kept comes = (1, omega arith, refl)
 sent_status_is (Bad text) words before now files faults faults' tree tree' kept comes = (2, omega arith, refl)
@@ -55,7 +55,7 @@ refused_is (Bad text) words before now files faults faults' tree tree' kept sent
 refused_is TooLong words before now files faults faults' tree tree' kept sent sent' comes took two = (long_text, inl comes.0, took)
 refused_is (Unfit text) words before now files faults faults' tree tree' kept sent sent' comes took two = (text, inr comes.0, took)
 refused_is (Replayed text status) words before now files faults faults' tree tree' kept sent sent' comes took two =
-    absurd (⊎_elim (λ zero. omega arith) (λ seven. omega arith) (zero_or_seven comes.0.run.state status comes.0.run.ends))
+    absurd (⊎_elim (λ zero. omega arith) (λ seven. omega arith) (zero_or_seven comes.0.run.run.after status comes.0.run.run.ends))
 refused_is (Checked text) words before now files faults faults' tree tree' kept sent sent' comes took two = absurd (omega arith)
 refused_is Usage words before now files faults faults' tree tree' kept sent sent' comes took two = absurd (omega arith)
 refused_is Faulted words before now files faults faults' tree tree' kept sent sent' comes took two = absurd (omega arith)

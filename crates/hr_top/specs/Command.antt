@@ -1,13 +1,13 @@
 -- What one call of `top` does, by its status. (Our own.)
-use Rattle.std.specs.Prelude.{◌≡◌, ◌⊎◌, ℕ, List, [], ◌∷◌, ◌++◌, codes, Contains, Option}
+use Rattle.std.specs.Prelude.{◌≡◌, ◌⊎◌, ℕ, List, [], ◌∷◌, codes, Contains, Option}
 use Rattle.hr_base.specs.Bytes.{ByteList, Text}
 use Rattle.hr_cause.specs.Stream.{Rose, Took, TookFront}
 use Rattle.hr_tree.specs.Tree.{Files}
 use Rattle.hr_script.specs.declared.refusal.Why.{Why}
-use Rattle.hr_replay.specs.Replay.{IsReplayed}
+use Rattle.hr_replay.specs.Replay.{IsNothing, IsReplayed}
 use Rattle.hr_replay.specs.Script.{IsBad, LacksTag}
 use Rattle.hr_replay.specs.Text.{bad_text, why_text}
-use Rattle.hr_replay.specs.declared.session.Ending.{Ending}
+use Rattle.hr_replay.specs.declared.ending.Ending.{Ending}
 use Rattle.hr_top.specs.Input.{IsLong, WasRead}
 use Rattle.hr_top.specs.Answers.{usage_text, long_text, fault_text, tree_fault_text}
 use Rattle.hr_top.specs.Checking.{FitAt, IsCheck, NamesFile, UnfitAt}
@@ -15,11 +15,6 @@ use Rattle.hr_top.specs.Checking.{FitAt, IsCheck, NamesFile, UnfitAt}
 -- the words are the one word `replay`
 abbrev pub IsReplay : List Text → Type 0
 IsReplay words = words ≡ codes "replay" ∷ []
-
--- nothing is kept: no registry, and no entry
-pub record IsNothing (kept : Ending) : Type 0 where
-  pub regs : kept.regs ≡ []
-  pub journal : kept.journal ≡ []
 
 -- ---- a command was run
 

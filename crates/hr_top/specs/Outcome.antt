@@ -3,8 +3,9 @@ use Rattle.std.specs.Prelude.{◌≡◌, ℕ, List, Option}
 use Rattle.hr_base.specs.Bytes.{ByteList, Text}
 use Rattle.hr_tree.specs.Tree.{Files}
 use Rattle.hr_top.specs.Answers.{fault_text, long_text, memory_text, tree_fault_text, usage_text}
-use Rattle.hr_top.specs.Command.{Checked as IsChecked, IsBadFile, IsBadScript, IsInputFault, IsNothing, IsTreeFault, IsUsage, Replayed as IsReplayed}
-use Rattle.hr_replay.specs.declared.session.Ending.{Ending}
+use Rattle.hr_top.specs.Command.{Checked as IsChecked, IsBadFile, IsBadScript, IsInputFault, IsTreeFault, IsUsage, Replayed as IsReplayed}
+use Rattle.hr_replay.specs.Replay.{IsNothing}
+use Rattle.hr_replay.specs.declared.ending.Ending.{Ending}
 use Rattle.hr_top.specs.declared.outcome.Outcome.{Outcome}
 use Rattle.hr_top.specs.declared.outcome.Outcome.TheVariants.{Replayed, Checked, Usage, Bad, TooLong, Unfit, Faulted, TreeFaulted, Memory}
 

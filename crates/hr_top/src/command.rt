@@ -7,7 +7,8 @@ ghost use Rattle.hr_script.specs.declared.reading.TheConstants.{SCRIPT_LIMIT};
 ghost use Rattle.hr_top.specs.Checking.{NamesFile};
 ghost use Rattle.hr_top.specs.Input.{WasRead};
 ghost use Rattle.hr_top.specs.Outcome.{Comes};
-ghost use Rattle.hr_top.specs.Command.{IsAny, IsDone, IsFaulted, IsNothing, IsRefused, IsReplay, IsStatus, IsUsage, Sent, SentFront};
+ghost use Rattle.hr_replay.specs.Replay.{IsNothing};
+ghost use Rattle.hr_top.specs.Command.{IsAny, IsDone, IsFaulted, IsRefused, IsReplay, IsStatus, IsUsage, Sent, SentFront};
 
 use crate::checking::{check, file_of};
 use crate::input::{InputRefused, read_input};

@@ -9,4 +9,4 @@ mod outcome;
 mod wording;
 
 pub use command::top;
-pub use hr_replay::{Ending, RegHeld};
+pub use hr_replay::Ending;

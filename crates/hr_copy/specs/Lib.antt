@@ -1,5 +1,0 @@
-pub mod Calls
-pub mod Evidence
-pub mod Going
-pub mod Journal
-pub mod Outcome

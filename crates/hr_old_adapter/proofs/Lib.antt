@@ -1,5 +1,0 @@
-pub mod ContentLaws
-mod EntryLemmas
-pub mod HonestLaws
-pub mod PutLaws
-pub mod ShownLaws

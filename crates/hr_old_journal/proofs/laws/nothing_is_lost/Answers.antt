@@ -1,5 +1,0 @@
-use Rattle.hr_old_journal.proofs.GrowsLemmas.{does_grow}
-use Rattle.hr_old_journal.proofs.laws.nothing_is_lost.Goals as goal
-
-pub returns : goal.returns
-returns c = does_grow

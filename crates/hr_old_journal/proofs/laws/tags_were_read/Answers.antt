@@ -1,8 +1,0 @@
-use Rattle.hr_old_journal.proofs.SourceLemmas.{read_was_shown, tag_was_read}
-use Rattle.hr_old_journal.proofs.laws.tags_were_read.Goals as goal
-
-pub returns-clause-read : goal.returns-clause-read
-returns-clause-read c = tag_was_read
-
-pub returns-clause-shown : goal.returns-clause-shown
-returns-clause-shown c = read_was_shown

@@ -1,5 +1,0 @@
-use Rattle.hr_old_journal.proofs.PromiseLemmas.{promise_opens}
-use Rattle.hr_old_journal.proofs.laws.the_promise_opens.Goals as goal
-
-pub returns : goal.returns
-returns c = promise_opens

@@ -1,8 +1,0 @@
-pub mod Graph
-pub mod Grows
-pub mod OneEach
-pub mod Promise
-pub mod Puts
-pub mod Says
-pub mod Shown
-pub mod Still

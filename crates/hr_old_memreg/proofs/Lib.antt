@@ -1,5 +1,0 @@
-mod ChangeLemmas
-mod ListedLemmas
-mod MemLemmas
-mod OverLemmas
-mod ShownLemmas

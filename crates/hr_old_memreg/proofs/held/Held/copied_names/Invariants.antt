@@ -1,6 +1,0 @@
-use Rattle.std.proofs.Common.{◌≡◌, ◌++◌}
-use Rattle.hr_old_adapter.specs.Listing.{repos_of}
-use Rattle.hr_old_memreg.proofs.held.Held.copied_names.Given as goal
-
-abbrev pub invariant-loop-name : goal.invariant-loop-name
-invariant-loop-name l = l.names ++ l.name-iterator ≡ repos_of l.self

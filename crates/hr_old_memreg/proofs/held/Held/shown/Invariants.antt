@@ -1,6 +1,0 @@
-use Rattle.std.proofs.Common.{◌≡◌, ◌++◌}
-use Rattle.hr_old_adapter.specs.Listing.{tags_shown}
-use Rattle.hr_old_memreg.proofs.held.Held.shown.Given as goal
-
-abbrev pub invariant-loop-name : goal.invariant-loop-name
-invariant-loop-name l = l.shown ++ tags_shown l.name-iterator ≡ tags_shown l.self

@@ -1,4 +1,0 @@
-pub mod Change
-pub mod Shown
-pub mod Mem
-pub mod Listed

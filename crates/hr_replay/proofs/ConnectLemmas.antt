@@ -1,0 +1,161 @@
+-- Eight registries as connections of a lane.
+use Rattle.std.proofs.Common.{◌≡◌, ℕ, Bool, List, [], ◌∷◌, ◌++◌, length, refl, sym, ap, ◌∙◌, ◌+◌, append_assoc, arith, inl, inr, get_or, subst}
+use Rattle.std.specs.Prelude.{Option, IfSome, ◌&&◌}
+use Rattle.std.specs.List.{AllByRecursion, filter}
+use Rattle.std.proofs.lemmas.List.{append-nil}
+use Rattle.std.proofs.lemmas.Bool.{cases_Bool}
+use Rattle.hr_event.specs.declared.task.TaskSpec.{TaskSpec}
+use Rattle.hr_name.specs.Name.{RepoName}
+use Rattle.hr_adapter.specs.Content.{Content}
+use Rattle.hr_adapter.specs.Listing.{repos_of, tags_of}
+use Rattle.hr_adapter.specs.declared.listed.Tagged.{Tagged}
+use Rattle.hr_line.specs.State.{Link}
+use Rattle.hr_lane.specs.Conn.{AreDistinct, links_of}
+use Rattle.hr_lane.specs.declared.conn.Conn.{Conn}
+use Rattle.hr_lane.specs.State.{new_lane}
+use Rattle.hr_memreg.specs.Mem.{Mem, seen_of}
+use Rattle.hr_opening.specs.Plan.{are_listed, is_short, plan_of, spec_of, specs_for, specs_of}
+use Rattle.hr_opening.specs.Setup.{Setups, registries_of, setup_in}
+use Rattle.hr_session.specs.Ready.{CanRun}
+use Rattle.hr_session.specs.State.{Session, opening}
+use Rattle.hr_replay.specs.Connect.{JOB_LIMIT, dests_of, first_session, is_dest, is_source, links_from, sources_of}
+
+-- what holds of eight registries, holds of a list of that length
+of_eight : (P : List Mem → Type 0) → ((a b c d e f g h : Mem) → P (a ∷ b ∷ c ∷ d ∷ e ∷ f ∷ g ∷ h ∷ []))
+    → (regs : List Mem) → length regs ≡ 8 → P regs
+of_eight P each [] eight = absurd (omega (arith, eight))
+of_eight P each (a ∷ []) eight = absurd (omega (arith, eight))
+of_eight P each (a ∷ b ∷ []) eight = absurd (omega (arith, eight))
+of_eight P each (a ∷ b ∷ c ∷ []) eight = absurd (omega (arith, eight))
+of_eight P each (a ∷ b ∷ c ∷ d ∷ []) eight = absurd (omega (arith, eight))
+of_eight P each (a ∷ b ∷ c ∷ d ∷ e ∷ []) eight = absurd (omega (arith, eight))
+of_eight P each (a ∷ b ∷ c ∷ d ∷ e ∷ f ∷ []) eight = absurd (omega (arith, eight))
+of_eight P each (a ∷ b ∷ c ∷ d ∷ e ∷ f ∷ g ∷ []) eight = absurd (omega (arith, eight))
+of_eight P each (a ∷ b ∷ c ∷ d ∷ e ∷ f ∷ g ∷ h ∷ []) eight = each a b c d e f g h
+of_eight P each (a ∷ b ∷ c ∷ d ∷ e ∷ f ∷ g ∷ h ∷ i ∷ more) eight = absurd (omega (arith, eight))
+
+pub sources_apart : (regs : List Mem) → length regs ≡ 8 → AreDistinct (sources_of regs)
+sources_apart regs eight =
+    of_eight (λ (regs : List Mem). AreDistinct (sources_of regs))
+    (λ a b c d e f g h. (refl, (refl, (refl, (refl, (refl, (refl, (refl, tt)))))))) regs eight
+
+pub dests_apart : (regs : List Mem) → length regs ≡ 8 → AreDistinct (dests_of regs)
+dests_apart regs eight =
+    of_eight (λ (regs : List Mem). AreDistinct (dests_of regs)) (λ a b c d e f g h. (refl, tt)) regs eight
+
+-- ---- the tasks of a plan are from registry 1 to registry 2
+
+can_run : (regs : List Mem) → length regs ≡ 8 → (repo : RepoName) (tags : List Tagged)
+    → CanRun (new_lane (sources_of regs) (dests_of regs)) (spec_of repo tags)
+can_run regs eight repo tags =
+    of_eight (λ (regs : List Mem). CanRun (new_lane (sources_of regs) (dests_of regs)) (spec_of repo tags))
+    (λ a b c d e f g h. record { source = refl; dest = refl }) regs eight
+
+spec_runs : (regs : List Mem) → length regs ≡ 8 → (repo : RepoName) (tags : List Tagged) (rest : List TaskSpec)
+    → AllByRecursion (CanRun (new_lane (sources_of regs) (dests_of regs))) rest
+    → AllByRecursion (CanRun (new_lane (sources_of regs) (dests_of regs))) (specs_for repo tags ++ rest)
+spec_runs regs eight repo [] rest others = others
+spec_runs regs eight repo (tagged ∷ tags) rest others = (can_run regs eight repo (tagged ∷ tags), others)
+
+specs_run : (regs : List Mem) → length regs ≡ 8 → (c : Content) (repos : List RepoName)
+    → AllByRecursion (CanRun (new_lane (sources_of regs) (dests_of regs))) (specs_of c repos)
+specs_run regs eight c [] = tt
+specs_run regs eight c (repo ∷ repos) =
+    spec_runs regs eight repo (tags_of c repo) (specs_of c repos) (specs_run regs eight c repos)
+
+pub plan_runs : (regs : List Mem) → length regs ≡ 8 → (c : Content)
+    → IfSome (plan_of c) (AllByRecursion (CanRun (new_lane (sources_of regs) (dests_of regs))))
+plan_runs regs eight c = elim (cases_Bool (is_short (repos_of c) && are_listed c (repos_of c))) [
+  | inl short ↦ rw short (specs_run regs eight c (repos_of c))
+  | inr long ↦ rw long tt
+]
+
+-- ---- connections as they are made
+
+filter_more : (P : Link → Bool) (x : Link) (xs : List Link) → filter P (x ∷ xs) ≡ filter P (x ∷ []) ++ filter P xs
+filter_more P x xs = elim (cases_Bool (P x)) [
+  | inl here ↦ rw here refl
+  | inr other ↦ rw other refl
+]
+
+more_of : (P : Link → Bool) (made later : List Link) (left rest : List Mem) (m : Mem) (number : ℕ) (all : List Link)
+    → made ++ filter P (links_from number left) ≡ all → left ≡ m ∷ rest
+    → later ≡ made ++ filter P (record { reg = record { 0 = number }; seen = seen_of m } ∷ [])
+    → later ++ filter P (links_from (number + 1) rest) ≡ all
+more_of P made later left rest m number all so_far is more =
+    let one : Link = record { reg = record { 0 = number }; seen = seen_of m } in
+    ap (λ (xs : List Link). xs ++ filter P (links_from (number + 1) rest)) more
+    ∙ append_assoc made (filter P (one ∷ [])) (filter P (links_from (number + 1) rest))
+    ∙ ap (λ (xs : List Link). made ++ xs) (sym (filter_more P one (links_from (number + 1) rest)))
+    ∙ ap (λ (xs : List Mem). made ++ filter P (links_from number xs)) (sym is) ∙ so_far
+
+-- so many connections were made, and these registries are left
+pub record SoFar (sources dests : List Link) (left : List Mem) (number : ℕ) (regs : List Mem) : Type 0 where
+  pub count : number + length left ≡ 9
+  pub sources_so : sources ++ filter is_source (links_from number left) ≡ sources_of regs
+  pub dests_so : dests ++ filter is_dest (links_from number left) ≡ dests_of regs
+
+pub none_made : (left regs : List Mem) (sources dests : List Link) → sources ≡ [] → dests ≡ [] → left ≡ regs → length regs ≡ 8
+    → SoFar sources dests left 1 regs
+none_made left regs sources dests one two same eight =
+    let lengths = ap (λ (xs : List Mem). length xs) same in
+    record {
+      count = omega (arith, lengths, eight);
+      sources_so = ap (λ (xs : List Link). xs ++ filter is_source (links_from 1 left)) one
+          ∙ ap (λ (xs : List Mem). sources_of xs) same;
+      dests_so = ap (λ (xs : List Link). xs ++ filter is_dest (links_from 1 left)) two
+          ∙ ap (λ (xs : List Mem). dests_of xs) same;
+    }
+
+pub one_made : (sources dests sources' dests' : List Link) (left rest : List Mem) (m : Mem) (number : ℕ) (regs : List Mem)
+    → SoFar sources dests left number regs → left ≡ m ∷ rest
+    → sources' ≡ sources ++ filter is_source (record { reg = record { 0 = number }; seen = seen_of m } ∷ [])
+    → dests' ≡ dests ++ filter is_dest (record { reg = record { 0 = number }; seen = seen_of m } ∷ [])
+    → SoFar sources' dests' rest (number + 1) regs
+one_made sources dests sources' dests' left rest m number regs so_far is one two =
+    let lengths = ap (λ (xs : List Mem). length xs) is in let count = so_far.count in
+    record {
+      count = omega (arith, lengths, count);
+      sources_so = more_of is_source sources sources' left rest m number (sources_of regs) so_far.sources_so is one;
+      dests_so = more_of is_dest dests dests' left rest m number (dests_of regs) so_far.dests_so is two;
+    }
+
+pub all_made : (sources dests : List Link) (left : List Mem) (number : ℕ) (regs : List Mem) → SoFar sources dests left number regs
+    → left ≡ [] → (sources ≡ sources_of regs) × (dests ≡ dests_of regs)
+all_made sources dests left number regs so_far none = (
+  sym (append-nil sources) ∙ ap (λ (xs : List Mem). sources ++ filter is_source (links_from number xs)) (sym none)
+      ∙ so_far.sources_so,
+  sym (append-nil dests) ∙ ap (λ (xs : List Mem). dests ++ filter is_dest (links_from number xs)) (sym none)
+      ∙ so_far.dests_so,
+)
+
+-- ---- the session that begins
+
+pub plan_runs_in : (regs : List Mem) → length regs ≡ 8 → (c : Content) (plan : Option (List TaskSpec)) (sources dests : List Link)
+    → plan ≡ plan_of c → sources ≡ sources_of regs → dests ≡ dests_of regs
+    → IfSome plan (AllByRecursion (CanRun (new_lane sources dests)))
+plan_runs_in regs eight c plan sources dests planned one two =
+    subst (λ (p : Option (List TaskSpec)). IfSome p (AllByRecursion (CanRun (new_lane sources dests)))) (sym planned)
+    (subst (λ (s : List Link). IfSome (plan_of c) (AllByRecursion (CanRun (new_lane s dests)))) (sym one)
+    (subst (λ (d : List Link). IfSome (plan_of c) (AllByRecursion (CanRun (new_lane (sources_of regs) d)))) (sym two)
+    (plan_runs regs eight c)))
+
+first_content : (setups : Setups) (m : Mem) → length (registries_of setups) ≡ 8
+    → (get_or (registries_of setups) 0 m).content ≡ (setup_in setups 1).content
+first_content [] m eight = absurd (omega (arith, eight))
+first_content (x ∷ more) m eight = refl
+
+pub begins_first : (setups : Setups) (regs items : List Mem) (m : Mem) (plan : Option (List TaskSpec)) (sources dests : List Link) (held : List (Conn Mem)) (s : Session)
+    → held ≡ [] → regs ≡ registries_of setups → length regs ≡ 8 → items ≡ regs → m ≡ get_or items 0 m → plan ≡ plan_of m.content
+    → sources ≡ sources_of regs → dests ≡ dests_of regs → s ≡ opening sources dests (links_of seen_of held) plan JOB_LIMIT → s ≡ first_session setups
+begins_first setups regs items m plan sources dests held s none opened eight same at planned one two is =
+    let few : length (registries_of setups) ≡ 8 = sym (ap (λ (xs : List Mem). length xs) opened) ∙ eight in
+    let content : m.content ≡ (setup_in setups 1).content =
+    ap (λ (x : Mem). x.content) (at ∙ ap (λ (xs : List Mem). get_or xs 0 m) (same ∙ opened)) ∙ first_content setups m few in
+    is
+    ∙ ap (λ (x : List (Conn Mem)). opening sources dests (links_of seen_of x) plan JOB_LIMIT) none
+    ∙ ap (λ (x : List Link). opening x dests [] plan JOB_LIMIT) (one ∙ ap (λ (xs : List Mem). sources_of xs) opened)
+    ∙ ap (λ (x : List Link). opening (sources_of (registries_of setups)) x [] plan JOB_LIMIT)
+    (two ∙ ap (λ (xs : List Mem). dests_of xs) opened)
+    ∙ ap (λ (x : Option (List TaskSpec)). opening (sources_of (registries_of setups)) (dests_of (registries_of setups)) [] x JOB_LIMIT)
+    (planned ∙ ap (λ (c : Content). plan_of c) content)

@@ -1,0 +1,13 @@
+use Rattle.std.proofs.Common.{Err, refl}
+use Rattle.std.proofs.lemmas.Result.{err_from_is_err_and}
+use Rattle.hr_script.specs.Event.{take_of}
+use Rattle.hr_script.specs.declared.refusal.Why.TheVariants as why
+use Rattle.hr_script.proofs.MeaningLemmas.{at_words}
+use Rattle.hr_script.proofs.SplitLemmas.{word_left}
+use Rattle.hr_script.proofs.event.read_take.Goals as goal
+
+pub returns-in_err-end_words : goal.returns-in_err-end_words
+returns-in_err-end_words c =
+    let left = word_left c.args.words c.in_err-end_words.ensures.some in
+    let p = err_from_is_err_and c.from_residual.result c.from_residual.ensures.1 in
+    rw (p.1, p.2, c.in_err-end_words.ensures.err) (at_words take_of _ _ (Err why.Count) left.split refl)

@@ -1,0 +1,44 @@
+use Rattle.std.proofs.Common.{Ok, Err, refl}
+use Rattle.std.specs.Option.{option_copied}
+use Rattle.std.proofs.lemmas.Result.{err_from_is_err_and}
+use Rattle.hr_script.specs.Planned.{fault_of}
+use Rattle.hr_script.specs.declared.refusal.Why.TheVariants as why
+use Rattle.hr_script.specs.declared.line.Line.TheVariants.{Fault}
+use Rattle.hr_script.specs.Text.{words_left}
+use Rattle.hr_script.specs.Word.{lane_in, operation_in, registry_in}
+use Rattle.hr_script.proofs.MeaningLemmas.{at_words, joined, refused, unless_memory}
+use Rattle.hr_script.proofs.SplitLemmas.{word_left}
+use Rattle.hr_script.proofs.planned.read_fault.Goals as goal
+
+pub returns-in_err-end_words : goal.returns-in_err-end_words
+returns-in_err-end_words c =
+    let left = word_left c.in_ok-op.words c.in_err-end_words.ensures.some in
+    let words = joined c.in_ok-lane.ensures.ok (joined c.in_ok-reg.ensures.ok (joined c.in_ok-op.ensures.ok left.split)) in
+    let p = err_from_is_err_and c.from_residual-in_err-end_words.result c.from_residual-in_err-end_words.ensures.1 in
+    rw (p.1, p.2, c.in_err-end_words.ensures.err) (at_words (fault_of c.args.lands) _ _ (Err why.Count) words refl)
+
+pub returns-in_err-read_lane : goal.returns-in_err-read_lane
+returns-in_err-read_lane c =
+    let words = joined c.in_ok-lane.ensures.ok (joined c.in_ok-reg.ensures.ok (joined c.in_ok-op.ensures.ok c.in_ok-end_words.ensures.ok)) in
+    let p = err_from_is_err_and c.from_residual-in_err-read_lane.result c.from_residual-in_err-read_lane.ensures.1 in
+    rw (p.1, p.2)
+    (unless_memory (fault_of c.args.lands (words_left (option_copied c.args.words))) c.in_err-read_lane.field-0.0 (λ why is. at_words (fault_of c.args.lands) _ _ (Err why) words (Err why, refused (lane_in c.in_ok-lane.lane.now) c.in_err-read_lane.field-0.0 why is c.in_err-read_lane.ensures, refl)))
+
+pub returns-in_err-read_registry : goal.returns-in_err-read_registry
+returns-in_err-read_registry c =
+    let words = joined c.in_ok-lane.ensures.ok (joined c.in_ok-reg.ensures.ok (joined c.in_ok-op.ensures.ok c.in_ok-end_words.ensures.ok)) in
+    let p = err_from_is_err_and c.from_residual-in_err-read_registry.result c.from_residual-in_err-read_registry.ensures.1 in
+    rw (p.1, p.2)
+    (unless_memory (fault_of c.args.lands (words_left (option_copied c.args.words))) c.in_err-read_registry.field-0.0 (λ why is. at_words (fault_of c.args.lands) _ _ (Err why) words (Ok c.in_ok-read_lane.field-0, c.in_ok-read_lane.ensures, (Err why, refused (registry_in c.in_ok-reg.reg.now) c.in_err-read_registry.field-0.0 why is c.in_err-read_registry.ensures, refl))))
+
+pub returns-in_err-read_operation : goal.returns-in_err-read_operation
+returns-in_err-read_operation c =
+    let words = joined c.in_ok-lane.ensures.ok (joined c.in_ok-reg.ensures.ok (joined c.in_ok-op.ensures.ok c.in_ok-end_words.ensures.ok)) in
+    let p = err_from_is_err_and c.from_residual-in_err-read_operation.result c.from_residual-in_err-read_operation.ensures.1 in
+    rw (p.1, p.2)
+    (unless_memory (fault_of c.args.lands (words_left (option_copied c.args.words))) c.in_err-read_operation.field-0.0 (λ why is. at_words (fault_of c.args.lands) _ _ (Err why) words (Ok c.in_ok-read_lane.field-0, c.in_ok-read_lane.ensures, (Ok c.in_ok-read_registry.field-0, c.in_ok-read_registry.ensures, (Err why, refused (operation_in c.in_ok-op.op.now) c.in_err-read_operation.field-0.0 why is c.in_err-read_operation.ensures, refl)))))
+
+pub returns : goal.returns
+returns c =
+    let words = joined c.in_ok-lane.ensures.ok (joined c.in_ok-reg.ensures.ok (joined c.in_ok-op.ensures.ok c.in_ok-end_words.ensures.ok)) in
+    at_words (fault_of c.args.lands) _ _ (Ok (Fault c.in_ok-read_lane.field-0 c.in_ok-read_registry.field-0 c.in_ok-read_operation.field-0 c.args.lands)) words (Ok c.in_ok-read_lane.field-0, c.in_ok-read_lane.ensures, (Ok c.in_ok-read_registry.field-0, c.in_ok-read_registry.ensures, (Ok c.in_ok-read_operation.field-0, c.in_ok-read_operation.ensures, refl)))

@@ -1,0 +1,37 @@
+use Rattle.hr_session.specs.Holds.{LaneRuns}
+use Rattle.hr_session.specs.State.{opening}
+use Rattle.hr_session.proofs.HoldsLemmas.{finished_by}
+use Rattle.hr_session.proofs.RunLemmas.{events_run, events_sound, opens}
+use Rattle.hr_session.proofs.laws.the_promise_holds.Goals as goal
+
+pub returns : goal.returns
+returns c sources dests others plan jobs events said t apart opening_sound runs =
+    let first = opening sources dests others plan jobs in
+    let sound = (events_sound events first t said opening_sound runs).sources in
+    let opened = opens sources dests others plan jobs apart in
+    let ran : LaneRuns first.lane t.lane = events_run c.calls_are_those_of_a_lane.ensures.steps events first t said runs in
+    record {
+      complete = λ reg o content dest. record {
+        told = c.tags_of_runs_are_complete.ensures.told ran.calls first.lane t.lane reg o content opened sound ran.runs dest;
+        untold = c.tags_of_runs_are_complete.ensures.untold ran.calls first.lane t.lane reg o content opened sound ran.runs dest;
+      };
+      read = λ reg o content dest newer older e repo tag d old how parts place says.
+          c.tags_of_runs_are_complete.ensures.read ran.calls first.lane t.lane reg o content newer older e repo tag d old how opened sound
+          ran.runs dest parts place says;
+      shown = λ newer older e src tag d parts from was.
+          c.tags_of_runs_are_complete.ensures.shown ran.calls first.lane t.lane newer older e src tag d opened sound ran.runs parts from was;
+      finished = λ newer older e a parts by.
+          finished_by a older e.what (λ tag d old how says.
+          c.tags_are_finished_as_they_were_read.ensures.runs ran.calls first.lane t.lane newer older e a tag d old how opened sound ran.runs
+          parts by says);
+      final = λ job rev. c.revisions_end_once.ensures.runs ran.calls first.lane t.lane job rev opened ran.runs;
+      ends = λ e a status why ended.
+          c.ends_are_what_the_journal_shows.ensures.runs ran.calls first.lane t.lane e a status why opened ran.runs ended.logged ended.by
+          ended.says;
+      caused = λ e a status why ended.
+          c.causes_stay_shown.ensures.runs ran.calls first.lane t.lane e a status why opened sound ran.runs ended.logged ended.by ended.says;
+      hooks = c.hooks_go_with_the_journal.ensures.runs ran.calls first.lane t.lane opened ran.runs;
+      copied = λ e a content o status why can both one have ended.
+          c.what_can_be_copied_is_copied.ensures.opened ran.calls first.lane t.lane e a content o status why opened sound ran.runs can both
+          one have ended.logged ended.by ended.says;
+    }

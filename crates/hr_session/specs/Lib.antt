@@ -1,0 +1,12 @@
+pub mod Answer
+pub mod Does
+pub mod Done
+pub mod Ends
+pub mod Finish
+pub mod Holds
+pub mod Lane
+pub mod Measure
+pub mod Parts
+pub mod Ready
+pub mod Run
+pub mod State
