@@ -20,9 +20,9 @@ use Rattle.hr_session.specs.Ready.{CanRun}
 use Rattle.hr_session.specs.State.{Session, opening}
 use Rattle.hr_replay.specs.Connect.{JOB_LIMIT, dests_of, first_session, is_dest, is_source, links_from, sources_of}
 
--- what holds of eight registries, holds of a list of that length
-of_eight : (P : List Mem → Type 0) → ((a b c d e f g h : Mem) → P (a ∷ b ∷ c ∷ d ∷ e ∷ f ∷ g ∷ h ∷ []))
-    → (regs : List Mem) → length regs ≡ 8 → P regs
+-- what holds of eight items, holds of a list of that length
+pub of_eight : {X : Type 0} (P : List X → Type 0) → ((a b c d e f g h : X) → P (a ∷ b ∷ c ∷ d ∷ e ∷ f ∷ g ∷ h ∷ []))
+    → (regs : List X) → length regs ≡ 8 → P regs
 of_eight P each [] eight = absurd (omega (arith, eight))
 of_eight P each (a ∷ []) eight = absurd (omega (arith, eight))
 of_eight P each (a ∷ b ∷ []) eight = absurd (omega (arith, eight))

@@ -1,4 +1,5 @@
 mod ConnectLemmas
+mod CopyableLemmas
 mod CountLemmas
 mod RunLemmas
 mod ScriptLemmas

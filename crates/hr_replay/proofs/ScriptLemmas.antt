@@ -7,12 +7,19 @@ use Rattle.hr_event.specs.declared.task.TaskSpec.{TaskSpec}
 use Rattle.hr_board.specs.Plain.{IsLawful, Plain, view_of}
 use Rattle.hr_line.specs.Run.{AreApart}
 use Rattle.hr_line.specs.State.{Link}
-use Rattle.hr_opening.specs.Opening.{Opens}
+use Rattle.hr_copyable.specs.Canonical.{AreCanonical}
+use Rattle.hr_copyable.specs.Copyable.{IsCopyable}
+use Rattle.hr_copyable.specs.LineTexts.{StoreOneText}
+use Rattle.hr_opening.proofs.FitLaws.{reading_fit}
+use Rattle.hr_opening.specs.Fit.{AreFit}
+use Rattle.hr_opening.specs.Opening.{Opens, after_lines}
 use Rattle.hr_opening.specs.Plan.{plan_of}
-use Rattle.hr_opening.specs.Setup.{Setups, registries_of, setup_in}
+use Rattle.hr_opening.specs.Setup.{Setups, no_setups, registries_of, setup_in}
 use Rattle.hr_opening.specs.declared.opening.Opened.{Opened}
 use Rattle.hr_script.specs.Reading.{IsReading}
 use Rattle.hr_script.specs.declared.reading.Lines.{Lines}
+use Rattle.hr_script.specs.declared.reading.Numbered.{Numbered}
+use Rattle.hr_session.specs.Arrives.{Arrives, AskForAll, CanArrive}
 use Rattle.hr_session.specs.Done.{AreTasksCopied}
 use Rattle.hr_session.specs.Ends.{AreEndsMoves, ends_of}
 use Rattle.hr_session.specs.Holds.{Holds}
@@ -20,11 +27,12 @@ use Rattle.hr_session.specs.Lane.{IsLaneSound}
 use Rattle.hr_session.specs.Run.{IsDone, Runs}
 use Rattle.hr_session.specs.State.{Session, opening}
 use Rattle.hr_replay.specs.Connect.{JOB_LIMIT, dests_of, first_session, sources_of}
-use Rattle.hr_replay.specs.Replay.{HasLawfulBoard, HasStatus, IsReliable, IsReplayed, IsRun}
+use Rattle.hr_replay.specs.Replay.{EndsWell, HasLawfulBoard, HasStatus, IsListed, IsReliable, IsReplayed, IsRun}
 use Rattle.hr_replay.specs.declared.ending.Ending.{Ending}
 use Rattle.hr_replay.proofs.ConnectLemmas.{dests_apart}
+use Rattle.hr_replay.proofs.CopyableLemmas.{can_arrive, ends_well}
 use Rattle.hr_memreg.specs.Mem.{Mem}
-use Rattle.std.specs.Prelude.{IfSome}
+use Rattle.std.specs.Prelude.{IfSome, Ok}
 
 -- the laws of sessions that are used
 pub record Laws : Type 0 where
@@ -40,6 +48,12 @@ pub record Laws : Type 0 where
       (t : Session) (board : Plain) → AreApart dests → IsLaneSound (opening sources dests others plan jobs).lane
       → Runs (opening sources dests others plan jobs) events said t → t.board ≡ view_of board
       → IsLawful board.words board.past → IsDone t → AreTasksCopied t
+  pub arrives : (sources dests others : List Link) (plan : Option (List TaskSpec)) (jobs : ℕ) (events : List Event) (said : List Told)
+      (t : Session) → AreApart dests → IsLaneSound (opening sources dests others plan jobs).lane
+      → Runs (opening sources dests others plan jobs) events said t → CanArrive (opening sources dests others plan jobs)
+      → AskForAll events → Arrives t
+  pub canonical : (lines : List Numbered) (opens : Setups) → AreFit lines → after_lines no_setups lines ≡ Ok opens
+      → AreCanonical lines → StoreOneText lines → IsCopyable opens
 
 reliable : Laws → (setups : Setups) → length (registries_of setups) ≡ 8 → IsLaneSound (first_session setups).lane
     → (events : List Event) (said : List Told) (t : Session) → Runs (first_session setups) events said t
@@ -76,6 +90,10 @@ replayed laws text lines opened kept said status reading whole opens eight runs 
     let law = kept_lawful kept run.keeps.board run.keeps.there lawful in
     let seen = sym run.keeps.seen in
     let now = reliable laws setups few sound opened.events run.told run.after run.runs in
+    let well : IsCopyable setups → IsListed setups → AskForAll opened.events → EndsWell run.after status =
+    λ can listed asks. ends_well run.after status run.ends
+    (laws.arrives (sources_of (registries_of setups)) (dests_of (registries_of setups)) [] (plan_of (setup_in setups 1).content) JOB_LIMIT
+    opened.events run.told run.after (dests_apart (registries_of setups) few) sound run.runs (can_arrive setups few can listed) asks) in
     record {
       opens = setups;
       events = opened.events;
@@ -87,4 +105,7 @@ replayed laws text lines opened kept said status reading whole opens eight runs 
       copied = λ zero. laws.done (sources_of (registries_of setups)) (dests_of (registries_of setups)) []
           (plan_of (setup_in setups 1).content) JOB_LIMIT opened.events run.told run.after run.keeps.board
           (dests_apart (registries_of setups) few) sound run.runs seen law (is_done run.after status run.ends zero);
+      arrives = well;
+      canonical = λ are one listed asks.
+          well (laws.canonical lines.lines setups (reading_fit text lines reading) opens.opens are one) listed asks;
     }

@@ -1,11 +1,16 @@
 -- What running a script gives. (Our own.)
-use Rattle.std.specs.Prelude.{◌≡◌, ◌⊎◌, ◌≤◌, ℕ, List, [], ◌++◌, reverse, Some, None, IfSome}
+use Rattle.std.specs.Prelude.{◌≡◌, ◌⊎◌, ◌≤◌, ℕ, List, [], ◌++◌, reverse, Some, None, IfSome, IsSome}
 use Rattle.hr_base.specs.Bytes.{ByteList, Text}
 use Rattle.hr_event.specs.declared.event.Event.{Event}
 use Rattle.hr_event.specs.declared.told.Told.{Told}
 use Rattle.hr_board.specs.Plain.{IsLawful, Plain, view_of}
-use Rattle.hr_opening.specs.Setup.{Setups}
+use Rattle.hr_copyable.specs.Canonical.{AreCanonical}
+use Rattle.hr_copyable.specs.Copyable.{IsCopyable}
+use Rattle.hr_copyable.specs.LineTexts.{StoreOneText}
+use Rattle.hr_opening.specs.Plan.{plan_of}
+use Rattle.hr_opening.specs.Setup.{Setups, setup_in}
 use Rattle.hr_print.specs.Text.{texts_of}
+use Rattle.hr_session.specs.Arrives.{AskForAll, RanOutOfMemory}
 use Rattle.hr_session.specs.Done.{AreTasksCopied}
 use Rattle.hr_session.specs.Ends.{AreEndsMoves, ends_of}
 use Rattle.hr_session.specs.Holds.{Holds}
@@ -53,9 +58,19 @@ pub record IsReliable (first now : Session) : Type 0 where
   pub holds : Holds first now
   pub ends : AreEndsMoves now
 
+-- neither the repositories of registry 1 nor the tags of one of them are more than may be listed
+abbrev pub IsListed : Setups → Type 0
+IsListed opens = IsSome (plan_of (setup_in opens 1).content)
+
+-- all succeeded, or a revision ended by want of memory
+abbrev pub EndsWell : Session → ℕ → Type 0
+EndsWell now status = (status ≡ 0) ⊎ RanOutOfMemory now.lane
+
 -- the text is a script, whose events were run one after the other, with answers of this text; what
 -- operators rest on holds at the end, as after each front of the events; no revision ended twice;
--- and with the status 0 each task was copied
+-- with the status 0 each task was copied; and where all that stands in the registries can be copied,
+-- as it can where canonical lines stored it, and the events ask for all of it, the status is 0, or
+-- memory was wanting
 pub record IsReplayed (script : ByteList) (kept : Ending) (text : Text) (status : ℕ) : Type 0 where
   pub opens : Setups
   pub events : List Event
@@ -67,3 +82,6 @@ pub record IsReplayed (script : ByteList) (kept : Ending) (text : Text) (status 
   pub reliable : IsReliable (first_session opens) run.after
   pub once : (job rev : ℕ) → 1 ≤ job → rev ≤ 3 → ends_of run.after job rev ≤ 1
   pub copied : status ≡ 0 → AreTasksCopied run.after
+  pub arrives : IsCopyable opens → IsListed opens → AskForAll events → EndsWell run.after status
+  pub canonical : AreCanonical reads.lines.lines → StoreOneText reads.lines.lines → IsListed opens
+      → AskForAll events → EndsWell run.after status

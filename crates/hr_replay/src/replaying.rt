@@ -16,6 +16,7 @@ use crate::ending::Ending;
 use crate::events::take_events;
 use crate::refusal::{bad_line, line_lacks_tag};
 use hr_base::{Bytes, List, Memory};
+use hr_copyable::canonical_lines_can_be_copied;
 use hr_event::Event;
 use hr_memreg::MemRegistry;
 use hr_opening::{OpenRefused, Opened, open_script, plan};
@@ -23,7 +24,7 @@ use hr_print::print_all;
 use hr_script::{Fault, Lines, SCRIPT_LIMIT, read_lines};
 use hr_session::{
     Ended, Session, answers_have_texts, each_revision_ends_once, the_promise_holds,
-    what_is_done_was_copied,
+    what_can_be_copied_arrives, what_is_done_was_copied,
 };
 use std::alloc::Global;
 
@@ -66,6 +67,8 @@ pub fn replay(alloc: Global, text: &[u8]) -> Result<Replayed, Refused>
     the_promise_holds();
     each_revision_ends_once();
     what_is_done_was_copied();
+    what_can_be_copied_arrives();
+    canonical_lines_can_be_copied();
     let lines = match read_lines(alloc, text) {
         Ok(lines) => lines,
         Err(Memory) => return Err(Refused::Memory),

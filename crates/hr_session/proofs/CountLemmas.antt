@@ -19,14 +19,14 @@ use Rattle.hr_session.specs.Ends.{finals_at, hooks_at}
 
 -- ---- places
 
-cases : (m n : ℕ) → (m ≡ n) ⊎ (m ≢ n)
+pub cases : (m n : ℕ) → (m ≡ n) ⊎ (m ≢ n)
 cases m n = by (nat_eq m n) refl
   where
     by : (same : Bool) → nat_eq m n ≡ same → (m ≡ n) ⊎ (m ≢ n)
     by true is = inl (eqb-true m n is)
     by false is = inr (eqb-false m n is)
 
-not_equal : (m n : ℕ) → m ≢ n → nat_eq m n ≡ false
+pub not_equal : (m n : ℕ) → m ≢ n → nat_eq m n ≡ false
 not_equal m n apart = by (nat_eq m n) refl
   where
     by : (same : Bool) → nat_eq m n ≡ same → nat_eq m n ≡ false

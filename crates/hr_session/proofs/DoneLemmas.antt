@@ -51,12 +51,12 @@ grown (y ∷ ys) more zero x is = is
 grown (y ∷ ys) more (suc k) x is = grown ys more k x is
 
 -- what a list was made to give comes from something that it has
-record ComesFrom {X Y : Type 0} (h : X → Option Y) (xs : List X) (y : Y) : Type 0 where
-  from : X
-  within : Contains xs from
-  gives : h from ≡ Some y
+pub record ComesFrom {X Y : Type 0} (h : X → Option Y) (xs : List X) (y : Y) : Type 0 where
+  pub from : X
+  pub within : Contains xs from
+  pub gives : h from ≡ Some y
 
-comes_from : {X Y : Type 0} (h : X → Option Y) (xs : List X) (y : Y) → Contains (filter_map h xs) y → ComesFrom h xs y
+pub comes_from : {X Y : Type 0} (h : X → Option Y) (xs : List X) (y : Y) → Contains (filter_map h xs) y → ComesFrom h xs y
 comes_from h [] y (k, within, is) = absurd (omega arith)
 comes_from {X = X} {Y = Y} h (x ∷ xs) y within = by (comes_from h xs y) (h x) refl within
   where

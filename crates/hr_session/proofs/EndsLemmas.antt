@@ -59,7 +59,7 @@ first_of held job h here had = subst (λ (x : Option Held). IfSome x (IsFirstOf 
 found_finals : (v w : View) (place : Place) (mark : Mark) → FindsMark v w place mark → w.finals ≡ v.finals
 found_finals v w place mark finds = ap (λ (x : View). x.finals) finds.noted
 
-comes_hooks : (h : Held) (s mid : State) (why : Option Cause) → ComesToEnd h s mid why → mid.hooks ≡ s.hooks
+pub comes_hooks : (h : Held) (s mid : State) (why : Option Cause) → ComesToEnd h s mid why → mid.hooks ≡ s.hooks
 comes_hooks h s mid None comes = comes.1.hooks
 comes_hooks h s mid (Some why) (inl line) = line.hooks
 comes_hooks h s mid (Some why) (inr rests) = rests.1.hooks

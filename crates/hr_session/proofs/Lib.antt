@@ -1,3 +1,5 @@
+mod ArriveLemmas
+mod ComesLemmas
 mod CountLemmas
 mod DoneLemmas
 mod EndsLemmas
@@ -14,6 +16,7 @@ mod OpenedLemmas
 mod ReadyLemmas
 mod RunLemmas
 mod SoundLemmas
+mod StageLemmas
 mod TagsLemmas
 mod TextLemmas
 mod WordsLemmas

@@ -1,4 +1,5 @@
 pub mod Answer
+pub mod Arrives
 pub mod Does
 pub mod Done
 pub mod Ends

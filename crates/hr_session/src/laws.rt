@@ -11,6 +11,7 @@ ghost use Rattle.hr_line.specs.Run.{AreApart, IsOpening};
 ghost use Rattle.hr_line.specs.State.{Link, State, held_at};
 ghost use Rattle.hr_line.specs.Step.{GoesOn};
 ghost use Rattle.hr_session.specs.Answer.{IsTold};
+ghost use Rattle.hr_session.specs.Arrives.{Arrives, AskForAll, CanArrive};
 ghost use Rattle.hr_session.specs.Does.{Does};
 ghost use Rattle.hr_session.specs.Done.{AreTasksCopied};
 ghost use Rattle.hr_session.specs.Ends.{AreEndsMoves, ends_of};
@@ -105,4 +106,20 @@ pub fn what_is_done_was_copied()
     runs_keep_the_promise();
     ends_are_what_the_journal_shows();
     hooks_go_with_the_journal();
+}
+
+/// What can be copied arrives: where all that a trigger plans can be copied, as the session was
+/// opened, no job is stopped or left half done, and a finish comes after the last trigger, each
+/// execution succeeds, or a revision ended by want of memory.
+pub fn what_can_be_copied_arrives()
+    ensures { (sources dests others : List Link) (plan : Option (List TaskSpec)) (jobs : ℕ)
+        → (events : List Event) (said : List Told) (t : Session)
+        → AreApart dests → IsLaneSound (opening sources dests others plan jobs).lane
+        → Runs (opening sources dests others plan jobs) events said t
+        → CanArrive (opening sources dests others plan jobs) → AskForAll events → Arrives t }
+{
+    calls_are_those_of_a_lane();
+    runs_keep_the_promise();
+    hooks_go_with_the_journal();
+    the_promise_holds();
 }

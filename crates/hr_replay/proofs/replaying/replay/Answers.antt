@@ -36,6 +36,8 @@ returns-in-Ok-run-clause-ok c =
       moves = c.each_revision_ends_once.ensures.moves;
       once = c.each_revision_ends_once.ensures.once;
       done = c.what_is_done_was_copied.ensures;
+      arrives = c.what_can_be_copied_arrives.ensures;
+      canonical = c.canonical_lines_can_be_copied.ensures;
     })
     c.args.text.now c.in-Ok.lines c.in-Ok-open_script.opened c.in-Ok-run.replayed.kept c.in-Ok-run.replayed.text
     c.in-Ok-run.replayed.status c.in-Ok.ensures.ok c.in_default.is c.in-Ok-open_script.ensures.opens
