@@ -25,21 +25,24 @@ use Rattle.hr_adapter.specs.declared.plan.Change.{Change}
 use Rattle.hr_adapter.specs.declared.plan.Planned.{Planned}
 use Rattle.hr_adapter.proofs.ContentLaws.{name_itself}
 use Rattle.hr_copyable.specs.Copyable.{HoldsTags, IsCopyable, IsHeld, OpensWith}
-use Rattle.hr_journal.proofs.ListLaws.{contains_cases, contains_first, contains_later}
+use Rattle.hr_journal.proofs.ListLaws.{contains_cases, contains_first, contains_later, each_then}
 use Rattle.hr_journal.specs.Origin.{Holds}
 use Rattle.hr_lane.specs.State.{new_lane}
+use Rattle.hr_line.specs.Run.{IsDestination}
 use Rattle.hr_line.specs.State.{Link, State, link_at}
 use Rattle.hr_memreg.specs.Mem.{seen_of}
 use Rattle.hr_opening.specs.Plan.{are_listed, is_short, plan_of, spec_of, specs_for, specs_of}
 use Rattle.hr_opening.specs.Setup.{Setups, registries_of, registry_of, setup_in}
 use Rattle.hr_opening.specs.declared.setup.RegSetup.{RegSetup}
 use Rattle.hr_session.specs.Arrives.{Arrives, CanArrive, TaskCanArrive}
+use Rattle.hr_session.specs.Holds.{HasSource}
+use Rattle.hr_session.specs.Ready.{CanRun}
 use Rattle.hr_session.specs.State.{Session}
-use Rattle.hr_whole.specs.Texts.{IsOpenText}
+use Rattle.hr_whole.specs.Texts.{IsOpenText, OpensWithOneText}
 use Rattle.hr_whole.specs.Whole.{TagIsWhole}
-use Rattle.hr_replay.specs.Connect.{dests_of, first_session, sources_of}
-use Rattle.hr_replay.specs.Replay.{EndsWell, HasStatus, IsListed}
-use Rattle.hr_replay.proofs.ConnectLemmas.{of_eight}
+use Rattle.hr_replay.specs.Connect.{TARGET, dests_of, first_session, sources_of}
+use Rattle.hr_replay.specs.Replay.{EndsWell, HasStatus, IsListed, OpensClear}
+use Rattle.hr_replay.proofs.ConnectLemmas.{of_eight, plan_runs}
 
 -- ---- each tag that is listed is whole
 
@@ -134,6 +137,69 @@ opens_with opens reg bytes c is held =
 abbrev pub lane_of : Setups → State
 lane_of opens = new_lane (sources_of (registries_of opens)) (dests_of (registries_of opens))
 
+-- where all opens clear, the lane opens with one text a digest
+pub opens_one_text : (opens : Setups) → length (registries_of opens) ≡ 8 → OpensClear opens
+    → OpensWithOneText (lane_of opens) (setup_in opens 2).content
+opens_one_text opens eight =
+    of_eight (λ (opens : Setups). OpensClear opens → OpensWithOneText (lane_of opens) (setup_in opens 2).content) one opens
+    (sym (length-map registry_of opens) ∙ eight)
+  where
+    one : (a b c d e f g h : RegSetup) → OpensClear (a ∷ b ∷ c ∷ d ∷ e ∷ f ∷ g ∷ h ∷ [])
+        → OpensWithOneText (lane_of (a ∷ b ∷ c ∷ d ∷ e ∷ f ∷ g ∷ h ∷ [])) b.content
+    one a b c d e f g h clear = record {
+      tell =
+          each_link (λ (f : Reg). IsTrue f.quiet × IsSome f.told) (lane_of all).sources
+          ((quiet_of a (clear.moves 1), refl), (quiet_of c (clear.moves 3), refl), (quiet_of d (clear.moves 4), refl),
+          (quiet_of e (clear.moves 5), refl), (quiet_of f (clear.moves 6), refl), (quiet_of g (clear.moves 7), refl),
+          (quiet_of h (clear.moves 8), refl), tt);
+      once = λ x y first second same. clear.once x y (text_opens x first) (text_opens y second) same;
+    }
+      where
+        all : Setups
+        all = a ∷ b ∷ c ∷ d ∷ e ∷ f ∷ g ∷ h ∷ []
+
+        from_source : (bytes : ByteList) (r : RegNo)
+            → IfSome (link_at (lane_of all).sources r) (λ f. (x : Content) → f.told ≡ Some x → Holds x bytes → OpensWith all bytes)
+        from_source bytes =
+            each_link (λ (f : Reg). (x : Content) → f.told ≡ Some x → Holds x bytes → OpensWith all bytes) (lane_of all).sources
+            (opens_with all 1 bytes, opens_with all 3 bytes, opens_with all 4 bytes, opens_with all 5 bytes, opens_with all 6 bytes,
+            opens_with all 7 bytes, opens_with all 8 bytes, tt)
+
+        text_opens : (bytes : ByteList) → IsOpenText (lane_of all) b.content bytes → OpensWith all bytes
+        text_opens bytes (IsOpenText.dest held) = record { reg = 2; held = held }
+        text_opens bytes (IsOpenText.source r f x is told held) =
+            subst (λ (o : Option Reg). IfSome o (λ f. (x : Content) → f.told ≡ Some x → Holds x bytes → OpensWith all bytes)) is
+            (from_source bytes r) x told held
+
+-- registry 2 is a destination as it was opened
+pub is_target : (opens : Setups) (t : Session) (seen : Reg) (c : Content) → length (registries_of opens) ≡ 8 → OpensClear opens
+    → link_at t.lane.dests TARGET ≡ Some seen → seen.told ≡ Some c
+    → IsDestination (lane_of opens).dests t.lane TARGET (setup_in opens 2).content c
+is_target opens t seen c eight clear there tells =
+    of_eight (λ (opens : Setups). OpensClear opens → IsDestination (lane_of opens).dests t.lane TARGET (setup_in opens 2).content c)
+    (λ a b x d e f g h clear. record {
+      first = record { reg = TARGET; seen = seen_of (registry_of b) };
+      within = contains_first _ [];
+      named = refl;
+      quiet = quiet_of b (clear.moves 2);
+      told = refl;
+      honest = clear.honest;
+      now = seen;
+      there = there;
+      tells = tells;
+    }) opens (sym (length-map registry_of opens) ∙ eight) clear
+
+-- each task of the plan has a source
+pub plan_has_sources : (opens : Setups) → length (registries_of opens) ≡ 8
+    → IfSome (plan_of (setup_in opens 1).content) (AllByRecursion (HasSource (lane_of opens)))
+plan_has_sources opens eight =
+    each_has_source (plan_of (setup_in opens 1).content) (plan_runs (registries_of opens) eight (setup_in opens 1).content)
+  where
+    each_has_source : (plan : Option (List TaskSpec)) → IfSome plan (AllByRecursion (CanRun (lane_of opens)))
+        → IfSome plan (AllByRecursion (HasSource (lane_of opens)))
+    each_has_source None run = tt
+    each_has_source (Some specs) run = each_then (λ (spec : TaskSpec) (one : CanRun (lane_of opens) spec). one.source) specs run
+
 task_arrives : (opens : Setups) → length opens ≡ 8 → IsCopyable opens → (repo : RepoName) (tags : List Tagged)
     → AllByRecursion (TagIsWhole (setup_in opens 1).content repo) (map (λ (tagged : Tagged). tagged.tag) tags)
     → TaskCanArrive (lane_of opens) (spec_of repo tags)
@@ -171,35 +237,12 @@ task_arrives opens eight = of_eight (λ (opens : Setups). IsCopyable opens → (
         to = refl;
         can_write = record { sure = sure_of b (can.undisturbed 2).failing; none = refl };
       };
-      one_text = record {
-        tell =
-            each_link (λ (f : Reg). IsTrue f.quiet × IsSome f.told) (lane_of all).sources
-            ((quiet_of a (can.undisturbed 1).moves, refl),
-            (quiet_of c (can.undisturbed 3).moves, refl),
-            (quiet_of d (can.undisturbed 4).moves, refl),
-            (quiet_of e (can.undisturbed 5).moves, refl),
-            (quiet_of f (can.undisturbed 6).moves, refl),
-            (quiet_of g (can.undisturbed 7).moves, refl),
-            (quiet_of h (can.undisturbed 8).moves, refl), tt);
-        once = λ x y first second same. can.once x y (text_opens x first) (text_opens y second) same;
-      };
+      one_text = opens_one_text (a ∷ b ∷ c ∷ d ∷ e ∷ f ∷ g ∷ h ∷ []) refl (record {
+        honest = (can.undisturbed 2).honest;
+        moves = λ reg. (can.undisturbed reg).moves;
+        once = can.once;
+      });
     }
-      where
-        all : Setups
-        all = a ∷ b ∷ c ∷ d ∷ e ∷ f ∷ g ∷ h ∷ []
-
-        from_source : (bytes : ByteList) (r : RegNo)
-            → IfSome (link_at (lane_of all).sources r) (λ f. (x : Content) → f.told ≡ Some x → Holds x bytes → OpensWith all bytes)
-        from_source bytes =
-            each_link (λ (f : Reg). (x : Content) → f.told ≡ Some x → Holds x bytes → OpensWith all bytes) (lane_of all).sources
-            (opens_with all 1 bytes, opens_with all 3 bytes, opens_with all 4 bytes, opens_with all 5 bytes, opens_with all 6 bytes,
-            opens_with all 7 bytes, opens_with all 8 bytes, tt)
-
-        text_opens : (bytes : ByteList) → IsOpenText (lane_of all) b.content bytes → OpensWith all bytes
-        text_opens bytes (IsOpenText.dest held) = record { reg = 2; held = held }
-        text_opens bytes (IsOpenText.source r f x is told held) =
-            subst (λ (o : Option Reg). IfSome o (λ f. (x : Content) → f.told ≡ Some x → Holds x bytes → OpensWith all bytes)) is
-            (from_source bytes r) x told held
 
 -- ---- what a trigger plans
 

@@ -1,5 +1,6 @@
 -- What a text stands for, put together from its lines, its opening and its run.
 use Rattle.std.proofs.Common.{◌≡◌, ◌≤◌, ℕ, List, length, None, Some, Option, inl, inr, sym, subst, arith, []}
+use Rattle.std.specs.List.{AllByRecursion}
 use Rattle.hr_base.specs.Bytes.{ByteList, Text}
 use Rattle.hr_event.specs.declared.event.Event.{Event}
 use Rattle.hr_event.specs.declared.told.Told.{Told}
@@ -22,15 +23,16 @@ use Rattle.hr_script.specs.declared.reading.Numbered.{Numbered}
 use Rattle.hr_session.specs.Arrives.{Arrives, AskForAll, CanArrive}
 use Rattle.hr_session.specs.Done.{AreTasksCopied}
 use Rattle.hr_session.specs.Ends.{AreEndsMoves, ends_of}
-use Rattle.hr_session.specs.Holds.{Holds}
+use Rattle.hr_session.specs.Holds.{HasSource, Holds}
 use Rattle.hr_session.specs.Lane.{IsLaneSound}
 use Rattle.hr_session.specs.Run.{IsDone, Runs}
 use Rattle.hr_session.specs.State.{Session, opening}
-use Rattle.hr_replay.specs.Connect.{JOB_LIMIT, dests_of, first_session, sources_of}
+use Rattle.hr_whole.specs.Texts.{HaveSources}
+use Rattle.hr_replay.specs.Connect.{JOB_LIMIT, TARGET, dests_of, first_session, sources_of}
 use Rattle.hr_replay.specs.Replay.{EndsWell, HasLawfulBoard, HasStatus, IsListed, IsReliable, IsReplayed, IsRun}
 use Rattle.hr_replay.specs.declared.ending.Ending.{Ending}
 use Rattle.hr_replay.proofs.ConnectLemmas.{dests_apart}
-use Rattle.hr_replay.proofs.CopyableLemmas.{can_arrive, ends_well}
+use Rattle.hr_replay.proofs.CopyableLemmas.{can_arrive, ends_well, is_target, opens_one_text, plan_has_sources}
 use Rattle.hr_memreg.specs.Mem.{Mem}
 use Rattle.std.specs.Prelude.{IfSome, Ok}
 
@@ -52,17 +54,27 @@ pub record Laws : Type 0 where
       (t : Session) → AreApart dests → IsLaneSound (opening sources dests others plan jobs).lane
       → Runs (opening sources dests others plan jobs) events said t → CanArrive (opening sources dests others plan jobs)
       → AskForAll events → Arrives t
+  pub sources : (sources dests others : List Link) (plan : Option (List TaskSpec)) (jobs : ℕ) (events : List Event) (said : List Told)
+      (t : Session) → Runs (opening sources dests others plan jobs) events said t
+      → IfSome plan (AllByRecursion (HasSource (opening sources dests others plan jobs).lane))
+      → HaveSources (opening sources dests others plan jobs).lane t.lane
   pub canonical : (lines : List Numbered) (opens : Setups) → AreFit lines → after_lines no_setups lines ≡ Ok opens
       → AreCanonical lines → StoreOneText lines → IsCopyable opens
 
 reliable : Laws → (setups : Setups) → length (registries_of setups) ≡ 8 → IsLaneSound (first_session setups).lane
     → (events : List Event) (said : List Told) (t : Session) → Runs (first_session setups) events said t
-    → IsReliable (first_session setups) t
+    → IsReliable setups t
 reliable laws setups eight sound events said t runs =
     let apart = dests_apart (registries_of setups) eight in
+    let holds : Holds (first_session setups) t = laws.holds (sources_of (registries_of setups)) (dests_of (registries_of setups)) []
+        (plan_of (setup_in setups 1).content) JOB_LIMIT events said t apart sound runs in
     record {
-      holds = laws.holds (sources_of (registries_of setups)) (dests_of (registries_of setups)) []
-          (plan_of (setup_in setups 1).content) JOB_LIMIT events said t apart sound runs;
+      holds = holds;
+      whole = λ clear seen c there tells.
+          (holds.complete TARGET (setup_in setups 2).content c (is_target setups t seen c eight clear there tells)).opened
+          (opens_one_text setups eight clear)
+          (laws.sources (sources_of (registries_of setups)) (dests_of (registries_of setups)) []
+          (plan_of (setup_in setups 1).content) JOB_LIMIT events said t runs (plan_has_sources setups eight));
       ends = laws.moves (sources_of (registries_of setups)) (dests_of (registries_of setups)) []
           (plan_of (setup_in setups 1).content) JOB_LIMIT events said t apart sound runs;
     }

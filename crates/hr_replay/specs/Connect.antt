@@ -2,6 +2,7 @@
 -- others. (Our own.)
 use Rattle.std.specs.Prelude.{ℕ, Bool, ◌+◌, nat_eq, not, List, [], ◌∷◌}
 use Rattle.std.specs.List.{filter}
+use Rattle.hr_base.specs.declared.number.RegNo.{RegNo}
 use Rattle.hr_line.specs.State.{Link}
 use Rattle.hr_memreg.specs.Mem.{Mem, seen_of}
 use Rattle.hr_opening.specs.Plan.{plan_of}
@@ -13,6 +14,10 @@ abbrev pub links_from : ℕ → List Mem → List Link
 links_from reg [] = []
 links_from reg (m ∷ more) =
     record { reg = record { 0 = reg }; seen = seen_of m } ∷ links_from (reg + 1) more
+
+-- the number of the registry that is written to
+abbrev pub TARGET : RegNo
+TARGET = record { 0 = 2 }
 
 -- the connection is to the registry that is written to
 abbrev pub is_dest : Link → Bool

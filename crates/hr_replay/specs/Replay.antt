@@ -3,10 +3,15 @@ use Rattle.std.specs.Prelude.{◌≡◌, ◌⊎◌, ◌≤◌, ℕ, List, [], �
 use Rattle.hr_base.specs.Bytes.{ByteList, Text}
 use Rattle.hr_event.specs.declared.event.Event.{Event}
 use Rattle.hr_event.specs.declared.told.Told.{Told}
+use Rattle.hr_adapter.specs.Content.{Content, Honest}
+use Rattle.hr_adapter.specs.Reg.{Reg}
 use Rattle.hr_board.specs.Plain.{IsLawful, Plain, view_of}
 use Rattle.hr_copyable.specs.Canonical.{AreCanonical}
-use Rattle.hr_copyable.specs.Copyable.{IsCopyable}
+use Rattle.hr_copyable.specs.Copyable.{HasOneText, IsCopyable}
 use Rattle.hr_copyable.specs.LineTexts.{StoreOneText}
+use Rattle.hr_line.specs.Orderly.{placement}
+use Rattle.hr_line.specs.Run.{AreComplete}
+use Rattle.hr_line.specs.State.{link_at}
 use Rattle.hr_opening.specs.Plan.{plan_of}
 use Rattle.hr_opening.specs.Setup.{Setups, setup_in}
 use Rattle.hr_print.specs.Text.{texts_of}
@@ -16,7 +21,7 @@ use Rattle.hr_session.specs.Ends.{AreEndsMoves, ends_of}
 use Rattle.hr_session.specs.Holds.{Holds}
 use Rattle.hr_session.specs.Run.{IsDone, Runs}
 use Rattle.hr_session.specs.State.{Session}
-use Rattle.hr_replay.specs.Connect.{first_session}
+use Rattle.hr_replay.specs.Connect.{TARGET, first_session}
 use Rattle.hr_replay.specs.Script.{IsScript}
 use Rattle.hr_replay.specs.declared.ending.Ending.{Ending}
 
@@ -52,10 +57,24 @@ pub record IsRun (first : Session) (events : List Event) (kept : Ending) (text :
   pub keeps : IsKept after kept
   pub ends : HasStatus after status
 
--- what operators rest on, of a session as it began and as it is: all that holds of its lane; and each
--- end of a revision, by an entry or by the hook of a stop, is a last move of its word
-pub record IsReliable (first now : Session) : Type 0 where
-  pub holds : Holds first now
+-- registry 2 opens with everything under its own digest, no tag of any registry is to be moved, and
+-- no digest stands for two texts of all that they open with
+pub record OpensClear (opens : Setups) : Type 0 where
+  pub honest : Honest (setup_in opens 2).content
+  pub moves : (reg : ℕ) → (setup_in opens reg).moves ≡ []
+  pub once : HasOneText opens
+
+-- each tag that was put at registry 2, and names that manifest still, names one whose graph is there
+abbrev pub StandsWhole : Session → Type 0
+StandsWhole now = (seen : Reg) (c : Content) → link_at now.lane.dests TARGET ≡ Some seen
+    → seen.told ≡ Some c → AreComplete (placement TARGET now.lane.admitted) now.lane.log c
+
+-- what operators rest on, of a session of registries that open so: all that holds of its lane; each
+-- tag that was put stands whole, where they open clear; and each end of a revision, by an entry or by
+-- the hook of a stop, is a last move of its word
+pub record IsReliable (opens : Setups) (now : Session) : Type 0 where
+  pub holds : Holds (first_session opens) now
+  pub whole : OpensClear opens → StandsWhole now
   pub ends : AreEndsMoves now
 
 -- neither the repositories of registry 1 nor the tags of one of them are more than may be listed
@@ -78,8 +97,8 @@ pub record IsReplayed (script : ByteList) (kept : Ending) (text : Text) (status 
   pub run : IsRun (first_session opens) events kept text status
   pub always : (front behind : List Event) (answers : List Told) (mid : Session)
       → events ≡ front ++ behind → Runs (first_session opens) front answers mid
-      → IsReliable (first_session opens) mid
-  pub reliable : IsReliable (first_session opens) run.after
+      → IsReliable opens mid
+  pub reliable : IsReliable opens run.after
   pub once : (job rev : ℕ) → 1 ≤ job → rev ≤ 3 → ends_of run.after job rev ≤ 1
   pub copied : status ≡ 0 → AreTasksCopied run.after
   pub arrives : IsCopyable opens → IsListed opens → AskForAll events → EndsWell run.after status

@@ -33,7 +33,7 @@ use Rattle.hr_line.specs.declared.held.Held.{Held}
 use Rattle.hr_lane.specs.Admission.{AdmitsWord}
 use Rattle.hr_lane.specs.Word.{FindsMark, LooksAndCloses, OfWord, Steps}
 use Rattle.hr_session.specs.Arrives.{AskForAll, AsksForAll, HasFinish}
-use Rattle.hr_session.specs.Does.{Does, FindsNoJob, LooksAt, Plans, StepsJob, Triggers}
+use Rattle.hr_session.specs.Does.{Does, FindsNoJob, LooksAt, Plans, Triggers}
 use Rattle.hr_session.specs.Finish.{Finishes, GaveUp, GoesOut, Round, Rounds, StepsOut}
 use Rattle.hr_session.specs.Lane.{AdmitTells, StepsAs, TakesJob, revision_of}
 use Rattle.hr_session.specs.Run.{Runs}
@@ -189,7 +189,7 @@ module _ (P : TaskSpec → Type 0) (specs : List TaskSpec) (all : AllByRecursion
     moved =
         word.word.closes.moved ∙ ap (λ (p : ℕ). moving word.word.looked p 3 (word_of (At st))) at_is
 
-    after : List Word
+    abbrev after : List Word
     after = slice_set was.words (place_of job.0 0) (word_of (At st))
 
     told_after : t.board.words ≡ Some after

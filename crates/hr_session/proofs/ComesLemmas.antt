@@ -16,19 +16,19 @@ use Rattle.hr_event.specs.declared.told.Told.{Told}
 use Rattle.hr_adapter.specs.Content.{Content}
 use Rattle.hr_adapter.specs.Reg.{Reg}
 use Rattle.hr_board.specs.View.{Word, place_of}
-use Rattle.hr_journal.proofs.ListLaws.{each_has}
+use Rattle.hr_journal.proofs.ListLaws.{each_has, each_then}
 use Rattle.hr_line.specs.Hooks.{HooksTell, hook_from}
 use Rattle.hr_line.specs.Orderly.{IsOrderly, admitted_at}
 use Rattle.hr_line.specs.State.{Link, State, link_at}
 use Rattle.hr_line.specs.declared.held.Admitted.{Admitted}
 use Rattle.hr_whole.specs.Copied.{BothUnfailing, CanBeCopied, EndsWell}
-use Rattle.hr_whole.specs.Texts.{HaveSources}
 use Rattle.hr_session.specs.Arrives.{Arrives, AskForAll, CanArrive, RanOutOfMemory, TaskCanArrive, as_first}
-use Rattle.hr_session.specs.Holds.{IsCopied}
+use Rattle.hr_session.specs.Holds.{HasSource, IsCopied}
 use Rattle.hr_session.specs.Run.{IsDone, Runs}
 use Rattle.hr_session.specs.State.{Session, opening}
 use Rattle.hr_session.proofs.ArriveLemmas.{IsBetween, events_well}
 use Rattle.hr_session.proofs.DoneLemmas.{AreTasked, comes_from}
+use Rattle.hr_session.proofs.PlannedLemmas.{have_sources, task_at}
 use Rattle.hr_session.proofs.StageLemmas.{HasError, all_or_one}
 
 -- ---- a task, by any revision of it
@@ -61,10 +61,16 @@ any_unfailing opened a both = record {
   can_write = both.can_write;
 }
 
-task_at : (P : TaskSpec → Type 0) (xs : List TaskSpec) (i : ℕ) (x : TaskSpec) → AllByRecursion P xs → slice_get xs i ≡ Some x → P x
-task_at P [] i x all is = cc
-task_at P (y ∷ ys) zero x all is = let e : y ≡ x = cc in subst P e all.0
-task_at P (y ∷ ys) (suc i) x all is = task_at P ys i x all.1 is
+there : {X : Type 0} (o : Option X) (x : X) → o ≡ Some x → IsSome o
+there None x is = cc
+there (Some y) x is = refl
+
+-- it has a source
+has_source : (opened : State) (tasks : List TaskSpec) → AllByRecursion (TaskCanArrive opened) tasks
+    → AllByRecursion (HasSource opened) tasks
+has_source opened tasks can =
+    each_then (λ (spec : TaskSpec) (one : TaskCanArrive opened spec).
+    there (link_at opened.sources spec.src) one.copied.calm.source one.copied.calm.from) tasks can
 
 -- ---- an error
 
@@ -102,19 +108,6 @@ module _ (opened : State) (t : Session) (tasks : AllByRecursion (TaskCanArrive o
   can_arrive : (job rev : ℕ) (a : Admitted) → admitted_at t.lane.admitted job rev ≡ Some a → TaskCanArrive opened a.spec
   can_arrive job rev a is = task_at (TaskCanArrive opened) t.tasks (job - 1) a.spec tasks (tasked job rev a is)
 
-  have_sources : HaveSources opened t.lane
-  have_sources job rev = by (admitted_at t.lane.admitted job rev) refl
-    where
-      there : {X : Type 0} (o : Option X) (x : X) → o ≡ Some x → IsSome o
-      there None x is = cc
-      there (Some y) x is = refl
-
-      by : (found : Option Admitted) → admitted_at t.lane.admitted job rev ≡ found
-          → IfSome found (λ a. IsSome (link_at opened.sources a.spec.src))
-      by None is = tt
-      by (Some a) is = let can = can_arrive job rev a is in
-          there (link_at opened.sources a.spec.src) can.copied.calm.source can.copied.calm.from
-
   -- an error is want of memory
   ran_out : (job : ℕ) → IsOrderly t.lane → HooksTell t.lane → IsCopied opened t.lane → HasError t.lane.hooks job
       → RanOutOfMemory t.lane
@@ -140,7 +133,8 @@ module _ (opened : State) (t : Session) (tasks : AllByRecursion (TaskCanArrive o
           let can = can_arrive said.entry.job.0 said.entry.rev a at in
           wanting said a said.why refl
           (copied said.entry a can.from can.to status.Error said.why (any_copied opened a can.from can.to can.copied)
-          (any_unfailing opened a can.unfailing) can.one_text have_sources
+          (any_unfailing opened a can.unfailing) can.one_text
+          (have_sources opened t (has_source opened t.tasks tasks) tasked)
           (record { logged = said.logged; by = at; says = said.says }))
 
 four_of : (n : ℕ) → 4 * (n / 4) ≤ n

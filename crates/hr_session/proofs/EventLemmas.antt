@@ -21,9 +21,11 @@ use Rattle.hr_session.specs.Lane.{StepsAs, Takes, TakesJob}
 use Rattle.hr_session.specs.Run.{Runs}
 use Rattle.hr_session.specs.State.{Session, opened_after}
 
--- no lane was asked, nothing ended, and these tasks were added
+-- no lane was asked, nothing ended, and these tasks were added, which are none or those of the plan
 pub record IsStill (s : Session) (more : List TaskSpec) (t : Session) : Type 0 where
   pub lane : t.lane ≡ s.lane
+  pub plan : t.plan ≡ s.plan
+  pub planned : (more ≡ []) ⊎ (s.plan ≡ Some more)
   pub finals : t.board.finals ≡ s.board.finals
   pub stops : t.stops ≡ s.stops
   pub tasks : t.tasks ≡ s.tasks ++ more
@@ -33,6 +35,7 @@ pub record IsStopped (s : Session) (job : JobNo) (rev : ℕ) (t : Session) : Typ
   pub some : 1 ≤ job.0
   pub few : rev ≤ 3
   pub lane : t.lane ≡ s.lane
+  pub plan : t.plan ≡ s.plan
   pub finals : t.board.finals ≡ s.board.finals ++ (place_of job.0 rev, 4) ∷ []
   pub stops : t.stops ≡ stop_hook job rev ∷ s.stops
   pub tasks : t.tasks ≡ s.tasks
@@ -73,25 +76,29 @@ module _ (P : Session → Type 0) (still : (s t : Session) (more : List TaskSpec
 
   -- ---- a trigger, a stop, a look
 
-  plans_keep : (s t : Session) (plan : Option (List TaskSpec)) (answer : Told) → Plans s plan answer t → P s → P t
-  plans_keep s t None answer fails was =
+  plans_keep : (s t : Session) (plan : Option (List TaskSpec)) (answer : Told) → s.plan ≡ plan → Plans s plan answer t → P s → P t
+  plans_keep s t None answer is fails was =
       still s t [] (record {
         lane = ap (λ (x : Session). x.lane) fails.made;
+        plan = ap (λ (x : Session). x.plan) fails.made;
+        planned = inl refl;
         finals = ap (λ (x : Session). x.board.finals) fails.made;
         stops = ap (λ (x : Session). x.stops) fails.made;
         tasks = none_more s t (ap (λ (x : Session). x.tasks) fails.made);
       }) was
-  plans_keep s t (Some specs) answer (inl creates) was =
+  plans_keep s t (Some specs) answer is (inl creates) was =
       still s t specs (record {
         lane = ap (λ (x : Session). x.lane) creates.made;
+        plan = ap (λ (x : Session). x.plan) creates.made;
+        planned = inr is;
         finals = ap (λ (x : Session). x.board.finals) creates.made ∙ opened_finals (length specs) (length s.tasks) s.board;
         stops = ap (λ (x : Session). x.stops) creates.made;
         tasks = ap (λ (x : Session). x.tasks) creates.made;
       }) was
-  plans_keep s t (Some specs) answer (inr full) was = same s t full.same was
+  plans_keep s t (Some specs) answer is (inr full) was = same s t full.same was
 
   triggers_keep : (s t : Session) (policy : PolicyNo) (answer : Told) → Triggers s policy answer t → P s → P t
-  triggers_keep s t policy answer (inl first) was = plans_keep s t s.plan answer first.1 was
+  triggers_keep s t policy answer (inl first) was = plans_keep s t s.plan answer refl first.1 was
   triggers_keep s t policy answer (inr none) was = same s t none.1 was
 
   stop_keeps : (s t : Session) (job : JobNo) (came : StopAnswer) (answer : Told) → 1 ≤ job.0 → Stops s.board job.0 1 came t.board
@@ -101,6 +108,7 @@ module _ (P : Session → Type 0) (still : (s t : Session) (more : List TaskSpec
         some = some;
         few = omega (arith, passes.within);
         lane = ap (λ (x : Session). x.lane) tells.1;
+        plan = ap (λ (x : Session). x.plan) tells.1;
         finals = ap (λ (x : View). x.finals) stops.moved;
         stops = ap (λ (x : Session). x.stops) tells.1;
         tasks = ap (λ (x : Session). x.tasks) tells.1;
@@ -108,6 +116,8 @@ module _ (P : Session → Type 0) (still : (s t : Session) (more : List TaskSpec
   stop_keeps s t job (stop.Final rev st) answer some (more, passes, finds, last) tells was =
       still s t [] (record {
         lane = ap (λ (x : Session). x.lane) tells.1;
+        plan = ap (λ (x : Session). x.plan) tells.1;
+        planned = inl refl;
         finals = ap (λ (x : View). x.finals) finds.same;
         stops = ap (λ (x : Session). x.stops) tells.1;
         tasks = none_more s t (ap (λ (x : Session). x.tasks) tells.1);
@@ -123,6 +133,8 @@ module _ (P : Session → Type 0) (still : (s t : Session) (more : List TaskSpec
   word_keeps s t job rev answer (inr looks) was =
       still s t [] (record {
         lane = ap (λ (x : Session). x.lane) looks.rest;
+        plan = ap (λ (x : Session). x.plan) looks.rest;
+        planned = inl refl;
         finals = ap (λ (x : View). x.finals) looks.finds.noted;
         stops = ap (λ (x : Session). x.stops) looks.rest;
         tasks = none_more s t (ap (λ (x : Session). x.tasks) looks.rest);

@@ -1,7 +1,8 @@
 -- What the laws of lanes say of each entry, for all entries.
-use Rattle.std.proofs.Common.{◌≡◌, inl, inr, refl, sym, ap, ◌∙◌, ℕ, ◌+◌, ◌<◌, ◌≤◌, List, [], ◌∷◌, length, arith}
+use Rattle.std.proofs.Common.{◌≡◌, inl, inr, refl, sym, ap, ◌∙◌, ℕ, ◌+◌, ◌<◌, ◌≤◌, true, List, [], ◌∷◌, length, arith}
 use Rattle.std.specs.Prelude.{Option, Some, None, IsSome, Contains}
 use Rattle.std.specs.List.{AllByRecursion}
+use Rattle.hr_base.specs.declared.number.RegNo.{RegNo}
 use Rattle.hr_base.specs.declared.status.Status.{Status}
 use Rattle.hr_digest.specs.declared.digest.Digest.{Digest}
 use Rattle.hr_name.specs.Tag.{TagName}
@@ -32,6 +33,23 @@ pub finished_by : (a : Admitted) (older : List Entry) (said : What)
     → SaysShow a older said
 finished_by a older (what.Show tag d old how) has = has tag d old how refl
 finished_by a older _ has = tt
+
+-- some revision that writes to a registry
+abbrev pub writes_to : RegNo → Admitted
+writes_to reg = record {
+  job = record { 0 = 1 };
+  rev = 0;
+  spec = record {
+    policy = record { 0 = 1 };
+    src = reg;
+    dst = reg;
+    from = [];
+    to = [];
+    tags = [];
+    override_it = true;
+    attempts = 1;
+  };
+}
 
 -- ---- ends
 

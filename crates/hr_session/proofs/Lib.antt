@@ -13,6 +13,7 @@ mod LinksLemmas
 mod MadeLemmas
 mod MeasureLemmas
 mod OpenedLemmas
+mod PlannedLemmas
 mod ReadyLemmas
 mod RunLemmas
 mod SoundLemmas

@@ -1,5 +1,5 @@
 -- What operators rest on, after every event. (Our own, over OCI Image 1.1 and Harbor's job service.)
-use Rattle.std.specs.Prelude.{◌≡◌, ◌≤◌, ℕ, length, List, ◌∷◌, ◌++◌, Contains, Option, Some}
+use Rattle.std.specs.Prelude.{◌≡◌, ◌≤◌, ℕ, length, List, ◌∷◌, ◌++◌, Contains, Option, Some, IsSome}
 use Rattle.hr_base.specs.declared.number.RegNo.{RegNo}
 use Rattle.hr_base.specs.declared.status.Status.{Status}
 use Rattle.hr_digest.specs.declared.digest.Digest.{Digest}
@@ -9,6 +9,7 @@ use Rattle.hr_event.specs.declared.cause.Cause.{Cause}
 use Rattle.hr_event.specs.declared.entry.Entry.{Entry}
 use Rattle.hr_event.specs.declared.entry.How.{How}
 use Rattle.hr_event.specs.declared.entry.What.TheVariants.{Ended, Show}
+use Rattle.hr_event.specs.declared.task.TaskSpec.{TaskSpec}
 use Rattle.hr_adapter.specs.Content.{Content}
 use Rattle.hr_journal.specs.OneEach.{OneEach}
 use Rattle.hr_journal.specs.Origin.{AllTell, OneText, ShowedManifest, Source}
@@ -21,7 +22,7 @@ use Rattle.hr_line.specs.Orderly.{admitted_at, placement}
 use Rattle.hr_line.specs.Run.{AreComplete, Call, IsDestination, Runs}
 use Rattle.hr_line.specs.Shows.{SaysShow}
 use Rattle.hr_line.specs.Sources.{origin}
-use Rattle.hr_line.specs.State.{State}
+use Rattle.hr_line.specs.State.{State, link_at}
 use Rattle.hr_line.specs.declared.held.Admitted.{Admitted}
 use Rattle.hr_whole.specs.Copied.{BothUnfailing, CanBeCopied, EndsWell}
 use Rattle.hr_whole.specs.Texts.{HaveSources, OpensWithOneText}
@@ -40,9 +41,11 @@ pub record SaysEnded (t : State) (a : Admitted) (e : Entry) (status : Status) (w
   pub says : e.what ≡ Ended status why
 
 -- each tag that was put, and names that manifest still, names one whose graph is there, at each
--- destination of which no two texts of the opening and the sources have one digest, or no digest
--- stands for two contents in the journal
+-- destination of which no two texts of the opening and the sources have one digest, as all was opened
+-- or as it is now, or no digest stands for two contents in the journal
 pub record AreTagsComplete (s t : State) (reg : RegNo) (o c : Content) : Type 0 where
+  pub opened : OpensWithOneText s o → HaveSources s t
+      → AreComplete (placement reg t.admitted) t.log c
   pub told : AllTell (placement reg t.admitted) (origin t.sources t.admitted) t.log
       → OneText o (origin t.sources t.admitted) → AreComplete (placement reg t.admitted) t.log c
   pub untold : OneEach (placement reg t.admitted) o t.log
@@ -95,3 +98,7 @@ pub record LaneHolds (s t : State) : Type 0 where
 -- so of the lane of a session
 abbrev pub Holds : Session → Session → Type 0
 Holds first t = LaneHolds first.lane t.lane
+
+-- a task reads from a connection that the lane was opened with
+abbrev pub HasSource : State → TaskSpec → Type 0
+HasSource opened spec = IsSome (link_at opened.sources spec.src)

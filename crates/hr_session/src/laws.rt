@@ -15,11 +15,12 @@ ghost use Rattle.hr_session.specs.Arrives.{Arrives, AskForAll, CanArrive};
 ghost use Rattle.hr_session.specs.Does.{Does};
 ghost use Rattle.hr_session.specs.Done.{AreTasksCopied};
 ghost use Rattle.hr_session.specs.Ends.{AreEndsMoves, ends_of};
-ghost use Rattle.hr_session.specs.Holds.{Holds, LaneRuns};
+ghost use Rattle.hr_session.specs.Holds.{HasSource, Holds, LaneRuns};
 ghost use Rattle.hr_session.specs.Lane.{IsLaneSound};
 ghost use Rattle.hr_session.specs.Measure.{HasSoundWalk, job_left};
 ghost use Rattle.hr_session.specs.Run.{IsDone, Runs};
 ghost use Rattle.hr_session.specs.State.{Session, opening};
+ghost use Rattle.hr_whole.specs.Texts.{HaveSources};
 
 use hr_lane::calls_are_those_of_a_lane;
 use hr_line::{
@@ -27,7 +28,7 @@ use hr_line::{
     revisions_end_once, runs_keep_the_promise, tags_are_finished_as_they_were_read,
     tags_of_runs_are_complete,
 };
-use hr_whole::what_can_be_copied_is_copied;
+use hr_whole::{texts_stay_one, what_can_be_copied_is_copied};
 
 /// A law: a step that goes on leaves its job fewer steps, so that every revision which is stepped on
 /// and on ends; and the newest entries of the journal tell what it did.
@@ -73,6 +74,7 @@ pub fn the_promise_holds()
     ends_are_what_the_journal_shows();
     causes_stay_shown();
     hooks_go_with_the_journal();
+    texts_stay_one();
     what_can_be_copied_is_copied();
 }
 
@@ -107,6 +109,16 @@ pub fn what_is_done_was_copied()
     ends_are_what_the_journal_shows();
     hooks_go_with_the_journal();
 }
+
+/// A law: after any events each revision reads from a connection that the lane was opened with,
+/// where each task of the plan does.
+pub fn revisions_have_sources()
+    ensures { (sources dests others : List Link) (plan : Option (List TaskSpec)) (jobs : ℕ)
+        → (events : List Event) (said : List Told) (t : Session)
+        → Runs (opening sources dests others plan jobs) events said t
+        → IfSome plan (AllByRecursion (HasSource (opening sources dests others plan jobs).lane))
+        → HaveSources (opening sources dests others plan jobs).lane t.lane }
+{}
 
 /// What can be copied arrives: where all that a trigger plans can be copied, as the session was
 /// opened, no job is stopped or left half done, and a finish comes after the last trigger, each

@@ -1,6 +1,6 @@
 use Rattle.hr_session.specs.Holds.{LaneRuns}
 use Rattle.hr_session.specs.State.{opening}
-use Rattle.hr_session.proofs.HoldsLemmas.{finished_by}
+use Rattle.hr_session.proofs.HoldsLemmas.{finished_by, writes_to}
 use Rattle.hr_session.proofs.RunLemmas.{events_run, events_sound, opens}
 use Rattle.hr_session.proofs.laws.the_promise_holds.Goals as goal
 
@@ -12,6 +12,9 @@ returns c sources dests others plan jobs events said t apart opening_sound runs 
     let ran : LaneRuns first.lane t.lane = events_run c.calls_are_those_of_a_lane.ensures.steps events first t said runs in
     record {
       complete = λ reg o content dest. record {
+        opened = λ one have.
+            let no = c.texts_stay_one.ensures ran.calls first.lane t.lane (writes_to reg) o opened sound ran.runs one have in
+            c.tags_of_runs_are_complete.ensures.told ran.calls first.lane t.lane reg o content opened sound ran.runs dest no.tell no.once;
         told = c.tags_of_runs_are_complete.ensures.told ran.calls first.lane t.lane reg o content opened sound ran.runs dest;
         untold = c.tags_of_runs_are_complete.ensures.untold ran.calls first.lane t.lane reg o content opened sound ran.runs dest;
       };
