@@ -1,3 +1,5 @@
+mod DigestLemmas
 mod FormLemmas
 mod HoldLemmas
 mod LengthLemmas
+mod TreeLemmas
