@@ -1,5 +1,6 @@
 mod DigestLemmas
 mod FormLemmas
 mod HoldLemmas
+mod KidLemmas
 mod LengthLemmas
 mod TreeLemmas
