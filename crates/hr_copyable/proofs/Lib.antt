@@ -4,3 +4,4 @@ mod HoldLemmas
 mod KidLemmas
 mod LengthLemmas
 mod TreeLemmas
+mod StepLemmas
