@@ -1,1 +1,3 @@
+pub mod Canonical
 pub mod Copyable
+pub mod LineTexts

@@ -1,0 +1,7 @@
+mod DigestLemmas
+mod FormLemmas
+mod HoldLemmas
+mod KidLemmas
+mod LengthLemmas
+mod TreeLemmas
+mod StepLemmas
