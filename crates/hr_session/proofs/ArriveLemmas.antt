@@ -1,10 +1,10 @@
 -- Where no job is stopped or left half done, each one that was planned is taken and stepped to its end.
-use Rattle.std.proofs.Common.{◌≡◌, ◌⊎◌, inl, inr, refl, sym, ap, subst, ◌∙◌, zero, suc, ℕ, ◌+◌, ◌*◌, ◌-◌, ◌<◌, ◌≤◌, Bool, true, false, List, [], ◌∷◌, ◌++◌, length, arith}
+use Rattle.std.proofs.Common.{◌≡◌, ◌⊎◌, inl, inr, refl, sym, ap, subst, ◌∙◌, zero, suc, ℕ, ◌+◌, ◌*◌, ◌<◌, ◌≤◌, Bool, true, List, [], ◌∷◌, ◌++◌, length, arith}
 use Rattle.std.proofs.Math.ListN.{length-set}
-use Rattle.std.proofs.lemmas.Bool.{eq-eqb, eqb-true}
+use Rattle.std.proofs.lemmas.Bool.{eq-eqb}
 use Rattle.std.proofs.lemmas.List.{length-append}
 use Rattle.std.proofs.lemmas.Option.{slice_get_within}
-use Rattle.std.specs.Prelude.{◌≢◌, ◌&&◌, Option, Some, None, IfSome, Ok, Err, if◌then◌else◌, is_some, nat_eq, slice_get, slice_index, slice_set}
+use Rattle.std.specs.Prelude.{◌≢◌, Option, Some, None, IfSome, Ok, if◌then◌else◌, is_some, slice_index, slice_set}
 use Rattle.std.specs.List.{AllByRecursion, list_all}
 use Rattle.hr_base.specs.Status.{word_of}
 use Rattle.hr_base.specs.declared.number.JobNo.{JobNo}
@@ -24,7 +24,7 @@ use Rattle.hr_board.specs.View.{Place, View, Word, moving, place_of}
 use Rattle.hr_journal.proofs.ListLaws.{contains_first}
 use Rattle.hr_line.specs.Admission.{held_first}
 use Rattle.hr_line.specs.State.{HeldAfter, State, held_at}
-use Rattle.hr_line.specs.Step.{Drops, Ends, end_status, goes_on, hook_of}
+use Rattle.hr_line.specs.Step.{Ends, end_status, goes_on, hook_of}
 use Rattle.hr_line.specs.declared.answer.Admit.{Admit}
 use Rattle.hr_line.specs.declared.answer.Admit.TheVariants as admit
 use Rattle.hr_line.specs.declared.answer.Stepped.{Stepped}
@@ -34,13 +34,13 @@ use Rattle.hr_lane.specs.Admission.{AdmitsWord}
 use Rattle.hr_lane.specs.Word.{FindsMark, LooksAndCloses, OfWord, Steps}
 use Rattle.hr_session.specs.Arrives.{AskForAll, AsksForAll, HasFinish}
 use Rattle.hr_session.specs.Does.{Does, FindsNoJob, LooksAt, Plans, Triggers}
-use Rattle.hr_session.specs.Finish.{Finishes, GaveUp, GoesOut, Round, Rounds, StepsOut}
+use Rattle.hr_session.specs.Finish.{GaveUp, GoesOut, Round, Rounds, StepsOut}
 use Rattle.hr_session.specs.Lane.{AdmitTells, StepsAs, TakesJob, revision_of}
 use Rattle.hr_session.specs.Run.{Runs}
 use Rattle.hr_session.specs.State.{Session, opened_after}
 use Rattle.hr_session.proofs.CountLemmas.{cases, not_equal}
 use Rattle.hr_session.proofs.EndsLemmas.{AreFirst, IsFirstOf, comes_hooks, steps_first, takes_first}
-use Rattle.hr_session.proofs.StageLemmas.{AreStaged, HasError, Opened, Stage, all_opened, is_moved, is_waiting, others_staged, pending_is, running_is, stage_hook, stage_taken, told_word, words_moved}
+use Rattle.hr_session.proofs.StageLemmas.{AreStaged, Opened, Stage, all_opened, is_moved, is_waiting, others_staged, pending_is, running_is, stage_hook, stage_taken, told_word, words_moved}
 
 -- ---- what is held
 
@@ -399,20 +399,24 @@ module _ (P : TaskSpec → Type 0) (specs : List TaskSpec) (all : AllByRecursion
 
   look_between : (s t : Session) (job : JobNo) (rev : ℕ) (answer : Told) → LooksAt s job rev answer t → IsBetween s
       → IsBetween t × (t.tasks ≡ s.tasks) × (t.taken ≡ s.taken)
-  look_between s t job rev answer looks was = (record {
-    planned = planned_same s t (ap (λ (x : Session). x.plan) looks.rest) tasks (ap (λ (x : Session). x.execs) looks.rest) jobs was.planned;
-    opened = record {
-      words = was.opened.words;
-      told = found_words s.board t.board was.opened.words (place_of job.0 rev) looks.mark looks.finds was.opened.told;
-      room = omega (arith, jobs, was.opened.room);
-      staged =
-          subst (λ (n : ℕ). AreStaged 0 n t.taken t.lane.hooks was.opened.words) (sym (ap length tasks))
-          (subst (λ (n : ℕ). AreStaged 0 (length s.tasks) n t.lane.hooks was.opened.words) (sym taken)
-          (subst (λ (x : State). AreStaged 0 (length s.tasks) s.taken x.hooks was.opened.words) (sym lane) was.opened.staged));
-    };
-    taken = let e = ap length tasks in omega (arith, e, taken, was.taken);
-    free = λ other. ap (λ (x : State). held_at x.held other) lane ∙ was.free other;
-  }, tasks, taken)
+  look_between s t job rev answer looks was = (
+    record {
+      planned = planned_same s t (ap (λ (x : Session). x.plan) looks.rest) tasks (ap (λ (x : Session). x.execs) looks.rest) jobs was.planned;
+      opened = record {
+        words = was.opened.words;
+        told = found_words s.board t.board was.opened.words (place_of job.0 rev) looks.mark looks.finds was.opened.told;
+        room = omega (arith, jobs, was.opened.room);
+        staged =
+            subst (λ (n : ℕ). AreStaged 0 n t.taken t.lane.hooks was.opened.words) (sym (ap length tasks))
+            (subst (λ (n : ℕ). AreStaged 0 (length s.tasks) n t.lane.hooks was.opened.words) (sym taken)
+            (subst (λ (x : State). AreStaged 0 (length s.tasks) s.taken x.hooks was.opened.words) (sym lane) was.opened.staged));
+      };
+      taken = let e = ap length tasks in omega (arith, e, taken, was.taken);
+      free = λ other. ap (λ (x : State). held_at x.held other) lane ∙ was.free other;
+    },
+    tasks,
+    taken,
+  )
     where
       lane : t.lane ≡ s.lane
       lane = ap (λ (x : Session). x.lane) looks.rest

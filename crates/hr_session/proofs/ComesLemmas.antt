@@ -1,7 +1,6 @@
 -- What can be copied arrives: where every job came to its end, each succeeded, or memory was wanting.
-use Rattle.std.proofs.Common.{◌≡◌, ◌⊎◌, inl, inr, refl, sym, ap, subst, ◌∙◌, zero, suc, ℕ, ◌+◌, ◌*◌, ◌/◌, ◌-◌, ◌≤◌, true, List, [], ◌∷◌, length, arith}
-use Rattle.std.proofs.lemmas.List.{length-replicate}
-use Rattle.std.specs.Prelude.{Option, Some, None, IfSome, IsSome, Contains, replicate, slice_get, slice_index}
+use Rattle.std.proofs.Common.{◌≡◌, ◌⊎◌, inl, inr, refl, sym, ap, subst, ◌∙◌, ℕ, ◌*◌, ◌/◌, ◌-◌, ◌≤◌, List, length, arith}
+use Rattle.std.specs.Prelude.{Option, Some, None, IfSome, IsSome, Contains, replicate, slice_index}
 use Rattle.std.specs.List.{AllByRecursion}
 use Rattle.hr_base.specs.declared.status.Hook.{Hook}
 use Rattle.hr_base.specs.declared.status.Status.{Status}
@@ -14,7 +13,6 @@ use Rattle.hr_event.specs.declared.event.Event.{Event}
 use Rattle.hr_event.specs.declared.task.TaskSpec.{TaskSpec}
 use Rattle.hr_event.specs.declared.told.Told.{Told}
 use Rattle.hr_adapter.specs.Content.{Content}
-use Rattle.hr_adapter.specs.Reg.{Reg}
 use Rattle.hr_board.specs.View.{Word, place_of}
 use Rattle.hr_journal.proofs.ListLaws.{each_has, each_then}
 use Rattle.hr_line.specs.Hooks.{HooksTell, hook_from}
@@ -24,7 +22,7 @@ use Rattle.hr_line.specs.declared.held.Admitted.{Admitted}
 use Rattle.hr_whole.specs.Copied.{BothUnfailing, CanBeCopied, EndsWell}
 use Rattle.hr_session.specs.Arrives.{Arrives, AskForAll, CanArrive, RanOutOfMemory, TaskCanArrive, as_first}
 use Rattle.hr_session.specs.Holds.{HasSource, IsCopied}
-use Rattle.hr_session.specs.Run.{IsDone, Runs}
+use Rattle.hr_session.specs.Run.{Runs}
 use Rattle.hr_session.specs.State.{Session, opening}
 use Rattle.hr_session.proofs.ArriveLemmas.{IsBetween, events_well}
 use Rattle.hr_session.proofs.DoneLemmas.{AreTasked, comes_from}

@@ -1,14 +1,13 @@
 -- How far each job is where none is stopped: it waits, it succeeded, or it ended with an error.
-use Rattle.std.proofs.Common.{◌≡◌, ◌⊎◌, inl, inr, refl, sym, ap, subst, ◌∙◌, zero, suc, ℕ, ◌+◌, ◌*◌, ◌-◌, ◌<◌, ◌≤◌, List, [], ◌∷◌, length, arith}
+use Rattle.std.proofs.Common.{◌≡◌, ◌⊎◌, inl, inr, refl, sym, ap, subst, ◌∙◌, zero, suc, ℕ, ◌+◌, ◌*◌, ◌-◌, ◌<◌, ◌≤◌, List, ◌∷◌, length, arith}
 use Rattle.std.proofs.Math.ListN.{length-set}
 use Rattle.std.proofs.lemmas.List.{get_or-set_other, get_or-set_same}
-use Rattle.std.specs.Prelude.{◌≢◌, Option, Some, None, IfSome, Contains, slice_index, slice_set}
+use Rattle.std.specs.Prelude.{◌≢◌, Option, Some, IfSome, Contains, slice_index, slice_set}
 use Rattle.std.specs.Option.{option_map}
 use Rattle.hr_base.specs.Status.{word_of}
 use Rattle.hr_base.specs.declared.status.Hook.{Hook}
 use Rattle.hr_base.specs.declared.status.Mark.{Mark}
 use Rattle.hr_base.specs.declared.status.Mark.TheVariants.{At, Unopened}
-use Rattle.hr_base.specs.declared.status.Status.{Status}
 use Rattle.hr_base.specs.declared.status.Status.TheVariants as status
 use Rattle.hr_board.specs.View.{Place, View, Word, moving, place_of}
 use Rattle.hr_journal.proofs.ListLaws.{contains_later}

@@ -15,6 +15,7 @@ mod waiting;
 
 pub use laws::{
     answers_have_texts, each_revision_ends_once, events_are_calls_of_the_lane,
-    revisions_have_sources, steps_come_to_an_end, the_promise_holds, what_can_be_copied_arrives, what_is_done_was_copied,
+    revisions_have_sources, steps_come_to_an_end, the_promise_holds, what_can_be_copied_arrives,
+    what_is_done_was_copied,
 };
 pub use session::{Ended, Session};
