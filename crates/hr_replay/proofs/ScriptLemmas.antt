@@ -11,15 +11,12 @@ use Rattle.hr_line.specs.State.{Link}
 use Rattle.hr_copyable.specs.Canonical.{AreCanonical}
 use Rattle.hr_copyable.specs.Copyable.{IsCopyable}
 use Rattle.hr_copyable.specs.LineTexts.{StoreOneText}
-use Rattle.hr_opening.proofs.FitLaws.{reading_fit}
-use Rattle.hr_opening.specs.Fit.{AreFit}
 use Rattle.hr_opening.specs.Opening.{Opens, after_lines}
 use Rattle.hr_opening.specs.Plan.{plan_of}
 use Rattle.hr_opening.specs.Setup.{Setups, no_setups, registries_of, setup_in}
 use Rattle.hr_opening.specs.declared.opening.Opened.{Opened}
 use Rattle.hr_script.specs.Reading.{IsReading}
 use Rattle.hr_script.specs.declared.reading.Lines.{Lines}
-use Rattle.hr_script.specs.declared.reading.Numbered.{Numbered}
 use Rattle.hr_session.specs.Arrives.{Arrives, AskForAll, CanArrive}
 use Rattle.hr_session.specs.Done.{AreTasksCopied}
 use Rattle.hr_session.specs.Ends.{AreEndsMoves, ends_of}
@@ -58,8 +55,8 @@ pub record Laws : Type 0 where
       (t : Session) → Runs (opening sources dests others plan jobs) events said t
       → IfSome plan (AllByRecursion (HasSource (opening sources dests others plan jobs).lane))
       → HaveSources (opening sources dests others plan jobs).lane t.lane
-  pub canonical : (lines : List Numbered) (opens : Setups) → AreFit lines → after_lines no_setups lines ≡ Ok opens
-      → AreCanonical lines → StoreOneText lines → IsCopyable opens
+  pub canonical : (text : ByteList) (read : Lines) (opens : Setups) → IsReading text read → after_lines no_setups read.lines ≡ Ok opens
+      → AreCanonical read.lines → StoreOneText read.lines → IsCopyable opens
 
 reliable : Laws → (setups : Setups) → length (registries_of setups) ≡ 8 → IsLaneSound (first_session setups).lane
     → (events : List Event) (said : List Told) (t : Session) → Runs (first_session setups) events said t
@@ -119,5 +116,5 @@ replayed laws text lines opened kept said status reading whole opens eight runs 
           (dests_apart (registries_of setups) few) sound run.runs seen law (is_done run.after status run.ends zero);
       arrives = well;
       canonical = λ are one listed asks.
-          well (laws.canonical lines.lines setups (reading_fit text lines reading) opens.opens are one) listed asks;
+          well (laws.canonical text lines setups reading opens.opens are one) listed asks;
     }
