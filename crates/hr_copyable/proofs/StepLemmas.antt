@@ -1,6 +1,6 @@
 -- What a canonical line makes of the content of its registry: each tag there leads to a graph that
 -- stands whole.
-use Rattle.std.proofs.Common.{◌≡◌, ◌≢◌, ◌<◌, ◌≤◌, ◌+◌, ◌^◌, ◌&&◌, cond, ◌⊎◌, inl, inr, ℕ, suc, Bool, true, false, List, [], ◌∷◌, length, map, Option, Some, None, option_map, refl, sym, ap, subst, ◌∙◌, arith}
+use Rattle.std.proofs.Common.{◌≡◌, ◌<◌, ◌≤◌, ◌^◌, ◌&&◌, cond, inl, inr, ℕ, suc, Bool, true, false, List, [], ◌∷◌, length, map, Some, refl, sym, ap, subst, ◌∙◌, arith}
 use Rattle.std.specs.Prelude.{nat_eq}
 use Rattle.std.specs.List.{AllByRecursion}
 use Rattle.std.specs.Str.{bytes_eq}
@@ -19,7 +19,7 @@ use Rattle.hr_manifest.specs.Writable.{IsListed, IsWritable}
 use Rattle.hr_manifest.specs.declared.child.Child.{Child}
 use Rattle.hr_manifest.specs.declared.manifest.TheConstants.{CHILD_LIMIT}
 use Rattle.hr_base.specs.declared.limit.TheConstants.{MANIFEST_LIMIT}
-use Rattle.hr_adapter.specs.Content.{Content, blob_at, manifest_at, tag_at, with_manifest}
+use Rattle.hr_adapter.specs.Content.{Content, blob_at, tag_at}
 use Rattle.hr_adapter.specs.Put.{as_manifest, put_under}
 use Rattle.hr_adapter.specs.declared.registry.TheConstants.{BLOB_LIMIT}
 use Rattle.hr_adapter.proofs.ContentLaws.{tag_at-with_manifest}
@@ -105,8 +105,8 @@ module _ (c : Content) (before : List Line) (reg : RegNo) (repo : RepoName) (tag
   tagged_case q s d is new old false same = elim (tag_at-put_under-cases c repo tag media bytes q s) [
     | inl at ↦
         let mine : is_same_tag (at_tag reg repo tag) (at_tag reg q s) ≡ true =
-            ap (λ (p : RepoName). is_same_tag (at_tag reg repo tag) (at_tag reg p s)) at.0 ∙ ap (λ (t : TagName). is_same_tag (at_tag reg repo tag) (at_tag reg repo t)) at.1
-            ∙ same_itself reg repo tag in
+        ap (λ (p : RepoName). is_same_tag (at_tag reg repo tag) (at_tag reg p s)) at.0 ∙ ap (λ (t : TagName). is_same_tag (at_tag reg repo tag) (at_tag reg repo t)) at.1
+        ∙ same_itself reg repo tag in
         let never : true ≡ false = sym mine ∙ same in
         cc
     | inr still ↦ old (sym still ∙ is)

@@ -50,7 +50,7 @@ tree_of (line.Image reg repo tag layers ∷ before) named =
     if is_same_tag (record { reg = reg; repo = repo; tag = tag }) named then image_tree (length layers) else tree_of before named
 tree_of (line.Index reg repo tag children ∷ before) named =
     if is_same_tag (record { reg = reg; repo = repo; tag = tag }) named then index_tree
-        (map (λ child. tree_of before (record { reg = reg; repo = repo; tag = child })) children) else tree_of before named
+    (map (λ child. tree_of before (record { reg = reg; repo = repo; tag = child })) children) else tree_of before named
 tree_of (_ ∷ before) named = tree_of before named
 
 -- those that these tags of a repository lead to

@@ -1,12 +1,13 @@
 -- When all that stands in the registries of a script can be copied, by what they open with alone.
 -- (Our own, over OCI Image 1.1, "Image Manifest" and "Image Index".)
-use Rattle.std.specs.Prelude.{◌≡◌, ◌≢◌, ℕ, [], IfSome}
+use Rattle.std.specs.Prelude.{◌≡◌, ◌≢◌, ℕ, IsTrue, [], Some, IfSome}
 use Rattle.hr_base.specs.Bytes.{ByteList}
 use Rattle.hr_digest.specs.Digest.{digest_of}
 use Rattle.hr_digest.specs.declared.digest.Digest.{Digest}
 use Rattle.hr_name.specs.Name.{RepoName}
 use Rattle.hr_name.specs.Tag.{TagName}
 use Rattle.hr_adapter.specs.Content.{Content, Honest, tag_at}
+use Rattle.hr_adapter.specs.Reg.{Reg}
 use Rattle.hr_journal.specs.Graph.{StandsWhole}
 use Rattle.hr_journal.specs.Origin.{Holds}
 use Rattle.hr_opening.specs.Setup.{Setups, setup_in}
@@ -46,3 +47,10 @@ pub record IsCopyable (opens : Setups) : Type 0 where
   pub undisturbed : (reg : ℕ) → OpensUndisturbed (setup_in opens reg)
   pub held : (reg : ℕ) → reg ≢ 2 → HoldsTags (setup_in opens reg).content
   pub once : HasOneText opens
+
+-- a connection tells this content, has not failed and can't, and no change is planned for it
+pub record IsUndisturbed (reg : Reg) (c : Content) : Type 0 where
+  pub told : reg.told ≡ Some c
+  pub quiet : IsTrue reg.quiet
+  pub sure : IsTrue reg.sure
+  pub none : reg.faults ≡ 0
