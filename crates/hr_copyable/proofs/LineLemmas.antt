@@ -20,11 +20,11 @@ use Rattle.hr_opening.specs.Opening.{after_line, after_lines, registry_named, se
 use Rattle.hr_opening.specs.Setup.{Setups, no_setup, no_setups, setup_in, with_content}
 use Rattle.hr_opening.specs.Stored.{children_of, with_image, with_index, with_orphan}
 use Rattle.hr_opening.specs.declared.setup.RegSetup.{RegSetup}
-use Rattle.hr_copyable.specs.Canonical.{AreCanonicalAfter, IsCanonical, RegTag, tree_of}
+use Rattle.hr_copyable.specs.Canonical.{AreCanonicalAfter, IsCanonical, RegTag, at_tag, tree_of}
 use Rattle.hr_copyable.specs.LineTexts.{texts_from, texts_in, texts_of}
 use Rattle.hr_copyable.proofs.HoldLemmas.{no_tag, nothing_is_of, some_same}
 use Rattle.hr_copyable.proofs.SetupLemmas.{goes_ok, line_changes, line_leaves, ok_same}
-use Rattle.hr_copyable.proofs.StepLemmas.{ImagesReadBack, IndexesReadBack, IsWholeTree, Stands, at_tag, image_stands, index_stands, orphan_stands}
+use Rattle.hr_copyable.proofs.StepLemmas.{ImagesReadBack, IndexesReadBack, IsWholeTree, Stands, image_stands, index_stands, orphan_stands}
 
 -- nothing is planned for a registry
 pub record HasNoPlan (setup : RegSetup) : Type 0 where

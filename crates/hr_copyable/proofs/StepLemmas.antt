@@ -28,7 +28,7 @@ use Rattle.hr_journal.proofs.ListLaws.{each_then}
 use Rattle.hr_opening.specs.Stored.{children_of, config_text, with_blobs, with_image, with_index, with_orphan}
 use Rattle.hr_script.specs.declared.line.Line.{Line}
 use Rattle.hr_script.specs.declared.line.Line.TheVariants as line
-use Rattle.hr_copyable.specs.Canonical.{IsWithin, RegTag, Tree, image_tree, index_tree, is_same_tag, tree_of, trees_of}
+use Rattle.hr_copyable.specs.Canonical.{IsWithin, Tree, at_tag, image_tree, index_tree, is_same_tag, tree_of, trees_of}
 use Rattle.hr_copyable.proofs.DigestLemmas.{whole_digest}
 use Rattle.hr_copyable.proofs.FormLemmas.{IsForm}
 use Rattle.hr_copyable.proofs.HoldLemmas.{IsOf, Keeps, blobs_keep, blobs_of, blobs_tag, blobs_there, keeps_then, manifest_keeps, manifest_of, some_same, tagged_keeps, tagged_of}
@@ -48,10 +48,6 @@ IndexesReadBack = (children : List Child) → AllByRecursion IsWritable children
     → AllByRecursion IsListed children → length children ≤ CHILD_LIMIT
     → length (index_text children) ≤ MANIFEST_LIMIT
     → Reads index_media (index_text children) children
-
--- a tag by its registry, repository and name
-abbrev pub at_tag : RegNo → RepoName → TagName → RegTag
-at_tag reg repo tag = record { reg = reg; repo = repo; tag = tag }
 
 -- the graph of a manifest stands there, within the limits
 pub record IsWholeTree (c : Content) (repo : RepoName) (d : Digest) (tree : Tree) : Type 0 where

@@ -18,14 +18,14 @@ use hr_manifest::{image_reads_back, index_reads_back};
 use hr_opening::what_is_read_is_fit;
 use hr_whole::few_pairs_are_reached_of_few;
 
-/// A law: each registry of which all can be copied tells its content, has not failed, can't fail, and
+/// A law: each registry of which all can be copied tells its content, has not failed and can't, and
 /// no tag of it will be moved.
 pub fn copyable_registries_are_undisturbed()
     ensures { (opens : Setups) (reg : ℕ) → IsCopyable opens
         → IsUndisturbed (seen_of (registry_of (setup_in opens reg))) (setup_in opens reg).content }
 {}
 
-/// A law: each tag that stands in a registry that is read from can be copied, as a task asks for it.
+/// A law: each tag that stands in a registry which is read from can be copied by a task.
 pub fn copyable_tags_are_whole()
     ensures { (opens : Setups) (reg : ℕ) (repo : RepoName) (tag : TagName) (target : Target)
         → IsCopyable opens → reg ≢ 2

@@ -1,5 +1,5 @@
-//! When all that stands in the registries of a script can be copied, and which setup lines make such
-//! registries. It is all definitions and laws; start with `specs/Copyable.antt`.
+//! When all that stands in the registries of a script can be copied, and which setup lines make
+//! such registries. It is all definitions and laws; start with `specs/Copyable.antt`.
 #![tactic(auto)]
 
 mod laws;
