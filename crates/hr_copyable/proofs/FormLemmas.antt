@@ -1,5 +1,5 @@
 -- Manifests in their canonical texts: the bytes tell the media type.
-use Rattle.std.proofs.Common.{◌≡◌, ◌==◌, Bool, true, false, ℕ, List, get_or, ap, sym, ◌∙◌}
+use Rattle.std.proofs.Common.{◌≡◌, ◌==◌, true, false, ℕ, List, get_or, ap, sym, ◌∙◌}
 use Rattle.hr_base.specs.Bytes.{ByteList}
 use Rattle.hr_event.specs.declared.reference.Fetched.{Fetched}
 use Rattle.hr_manifest.specs.Canonical.{image_media, image_text, index_media, index_text}

@@ -139,8 +139,7 @@ module _ (T : ByteList → Type 0) (once : (a b : ByteList) → T a → T b → 
       → AllByRecursion (λ b. blob_at (with_blobs c r blobs) r (digest_of b) ≡ Some b) blobs
   blobs_there c r [] all of = tt
   blobs_there c r (bytes ∷ blobs) all of =
-      let next = with_blob c r (digest_of bytes) bytes in
-      (
+      let next = with_blob c r (digest_of bytes) bytes in (
         (blobs_keep next r blobs all.1 (blob_of c r bytes all.0 of)).blobs r (digest_of bytes) bytes (blob_at-with_blob-same c r (digest_of bytes) bytes),
         blobs_there next r blobs all.1 (blob_of c r bytes all.0 of),
       )

@@ -1,7 +1,7 @@
 -- The children of an index: manifests that tags lead to, whose graphs stand there, and the graph of
 -- the index.
-use Rattle.std.proofs.Common.{◌≡◌, ◌<◌, ◌≤◌, ◌+◌, ◌^◌, ◌⊎◌, inl, inr, ℕ, suc, List, [], ◌∷◌, ◌++◌, length, map, max, Option, Some, None, option_map, refl, sym, ap, subst, ◌∙◌, arith}
-use Rattle.std.specs.Prelude.{Contains, option_and_then, sum_by}
+use Rattle.std.proofs.Common.{◌≡◌, ◌<◌, ◌≤◌, ◌+◌, ℕ, suc, List, [], ◌∷◌, ◌++◌, length, Option, Some, None, option_map, refl, sym, ap, subst, ◌∙◌, arith}
+use Rattle.std.specs.Prelude.{option_and_then, sum_by}
 use Rattle.std.specs.List.{AllByRecursion}
 use Rattle.std.specs.Str.{IsUtf8}
 use Rattle.std.proofs.lemmas.List.Elements.{Contains-append_left, Contains-append_right}
@@ -19,7 +19,7 @@ use Rattle.hr_name.specs.Name.{RepoName}
 use Rattle.hr_name.specs.Tag.{TagName}
 use Rattle.hr_base.specs.declared.number.RegNo.{RegNo}
 use Rattle.hr_event.specs.declared.reference.Fetched.{Fetched}
-use Rattle.hr_manifest.specs.Canonical.{image_media, image_text, index_media, index_text}
+use Rattle.hr_manifest.specs.Canonical.{image_media, index_media, index_text}
 use Rattle.hr_manifest.specs.Reading.{Reads}
 use Rattle.hr_manifest.specs.Writable.{IsListed, IsWritable}
 use Rattle.hr_manifest.specs.declared.child.Child.{Child}
@@ -28,11 +28,11 @@ use Rattle.hr_manifest.specs.declared.child.ChildKind.TheVariants as kind
 use Rattle.hr_manifest.proofs.ReadingLaws.{reads_short}
 use Rattle.hr_adapter.specs.Content.{Content, manifest_at, tag_at}
 use Rattle.hr_adapter.specs.Put.{as_manifest}
-use Rattle.hr_journal.specs.Graph.{Closed, Stands, StandsUnder}
+use Rattle.hr_journal.specs.Graph.{StandsUnder}
 use Rattle.hr_journal.proofs.ListLaws.{contains_first, contains_later, each_has}
 use Rattle.hr_journal.proofs.PromiseLaws.{closed_made}
 use Rattle.hr_line.specs.Destination.{stored_of}
-use Rattle.hr_opening.specs.Stored.{child_of, children_of, config_text}
+use Rattle.hr_opening.specs.Stored.{child_of, children_of}
 use Rattle.hr_script.specs.declared.line.Line.{Line}
 use Rattle.hr_whole.specs.Whole.{IsAmong}
 use Rattle.hr_copyable.specs.Canonical.{Tree, deepest, index_tree, tree_of, trees_of}
@@ -76,7 +76,7 @@ module _ (T : ByteList → Type 0) (c : Content) (of : IsOf T c) (repo : RepoNam
       → child_of c repo tag ≡ Some kid → IsKid c repo tree kid
   kid_found tag tree graph kid is =
       let named = then_some (λ d. option_map (λ (m : Fetched). record { kind = kind.Manifest; digest = d; size = length m.bytes; media = m.media }) (manifest_at c repo d))
-          (tag_at c repo tag) kid is in
+      (tag_at c repo tag) kid is in
       let d = named.0 in
       let held = map_some (λ (m : Fetched). record { kind = kind.Manifest; digest = d; size = length m.bytes; media = m.media }) (manifest_at c repo d) kid named.2 in
       let m = held.0 in

@@ -1,6 +1,6 @@
 -- How long the canonical texts of images and indexes are at most.
-use Rattle.std.proofs.Common.{◌≡◌, ◌≤◌, ◌<◌, ◌+◌, ◌*◌, ◌^◌, ℕ, suc, List, [], ◌∷◌, ◌++◌, length, map, codes, decimal, refl, arith, length-append}
-use Rattle.std.specs.List.{AllByRecursion, join_with_byte}
+use Rattle.std.proofs.Common.{◌≡◌, ◌≤◌, ◌<◌, ◌+◌, ◌*◌, ◌^◌, ℕ, List, [], ◌∷◌, ◌++◌, length, map, codes, decimal, refl, arith, length-append}
+use Rattle.std.specs.List.{AllByRecursion}
 use Rattle.std.proofs.lemmas.Fmt.{length-decimal-le}
 use Rattle.hex.specs.Hex.{encode_lower, encode_with, lower_digits}
 use Rattle.hr_base.specs.Bytes.{ByteList}
@@ -46,7 +46,7 @@ descriptor_short child short =
     omega (
       arith,
       long_of_seven (codes "{\"mediaType\":\"") child.media (codes "\",\"digest\":\"") (text_of_digest child.digest) (codes "\",\"size\":")
-      (decimal child.size) (codes "}"),
+          (decimal child.size) (codes "}"),
       digest_long child.digest short.whole,
       length-decimal-le 20 child.size (omega arith) (omega (arith, short.size)) short.size,
       short.media,

@@ -1,7 +1,11 @@
+mod CopyableLemmas
 mod DigestLemmas
 mod FormLemmas
 mod HoldLemmas
 mod KidLemmas
 mod LengthLemmas
-mod TreeLemmas
+mod LineLemmas
+mod OpenLemmas
+mod SetupLemmas
 mod StepLemmas
+mod TreeLemmas

@@ -1,5 +1,5 @@
 -- Canonical lines, one after the other: what each registry then holds.
-use Rattle.std.proofs.Common.{◌≡◌, ◌≢◌, ◌≤◌, ◌-◌, ◌⊎◌, inl, inr, ℕ, zero, suc, slice_get, List, [], ◌∷◌, ◌++◌, length, Bool, true, false, Option, Some, None, option_map, unwrap_or, Result, Ok, refl, sym, ap, subst, ◌∙◌, arith}
+use Rattle.std.proofs.Common.{◌≡◌, ◌≤◌, ◌-◌, inl, inr, ℕ, zero, suc, slice_get, List, [], ◌∷◌, ◌++◌, length, false, Option, Some, None, option_map, unwrap_or, Ok, refl, sym, ap, subst, ◌∙◌}
 use Rattle.std.specs.Prelude.{Contains, nat_eq}
 use Rattle.std.specs.List.{AllByRecursion}
 use Rattle.std.proofs.lemmas.Bool.Decides.{eqb_tells}
@@ -7,12 +7,10 @@ use Rattle.std.proofs.lemmas.List.Elements.{Contains-append_left, Contains-appen
 use Rattle.hr_base.specs.Bytes.{ByteList}
 use Rattle.hr_base.specs.declared.number.RegNo.{RegNo}
 use Rattle.hr_digest.specs.Digest.{digest_of}
-use Rattle.hr_digest.specs.declared.digest.Digest.{Digest}
 use Rattle.hr_name.specs.Name.{RepoName}
 use Rattle.hr_name.specs.Tag.{TagName}
 use Rattle.hr_manifest.specs.Canonical.{index_text}
 use Rattle.hr_manifest.specs.declared.child.Child.{Child}
-use Rattle.hr_adapter.specs.Content.{Content}
 use Rattle.hr_script.specs.declared.line.Line.{Line}
 use Rattle.hr_script.specs.declared.line.Line.TheVariants as line
 use Rattle.hr_script.specs.declared.reading.Numbered.{Numbered}
@@ -22,11 +20,11 @@ use Rattle.hr_opening.specs.Opening.{after_line, after_lines, registry_named, se
 use Rattle.hr_opening.specs.Setup.{Setups, no_setup, no_setups, setup_in, with_content}
 use Rattle.hr_opening.specs.Stored.{children_of, with_image, with_index, with_orphan}
 use Rattle.hr_opening.specs.declared.setup.RegSetup.{RegSetup}
-use Rattle.hr_copyable.specs.Canonical.{AreCanonicalAfter, IsCanonical, RegTag, tree_of}
+use Rattle.hr_copyable.specs.Canonical.{AreCanonicalAfter, IsCanonical, RegTag, at_tag, tree_of}
 use Rattle.hr_copyable.specs.LineTexts.{texts_from, texts_in, texts_of}
 use Rattle.hr_copyable.proofs.HoldLemmas.{no_tag, nothing_is_of, some_same}
-use Rattle.hr_copyable.proofs.SetupLemmas.{Changes, goes_ok, line_changes, line_leaves, ok_same}
-use Rattle.hr_copyable.proofs.StepLemmas.{ImagesReadBack, IndexesReadBack, IsWholeTree, Stands, at_tag, image_stands, index_stands, orphan_stands}
+use Rattle.hr_copyable.proofs.SetupLemmas.{goes_ok, line_changes, line_leaves, ok_same}
+use Rattle.hr_copyable.proofs.StepLemmas.{ImagesReadBack, IndexesReadBack, IsWholeTree, Stands, image_stands, index_stands, orphan_stands}
 
 -- nothing is planned for a registry
 pub record HasNoPlan (setup : RegSetup) : Type 0 where
@@ -160,7 +158,7 @@ module _ (T : ByteList → Type 0) (once : (a b : ByteList) → T a → T b → 
           let fits = named_fits l reg fit named in
           let changes = line_changes setups after l reg named fits all.eight is in
           let of_it = each_of T (texts_of (setup_in setups reg.0).content l)
-              (λ x within. texts x (subst (λ (xs : List ByteList). Contains xs x) (sym (texts_named reg named)) within)) in
+          (λ x within. texts x (subst (λ (xs : List ByteList). Contains xs x) (sym (texts_named reg named)) within)) in
           let here = named_stands T once images indexes before l reg (setup_in setups reg.0) changes.new named canonical (all.each reg.0 fits.some) of_it changes.made in record {
             eight = changes.eight;
             each = λ other some. elim (eqb_tells reg.0 other) [
@@ -197,9 +195,9 @@ module _ (T : ByteList → Type 0) (once : (a b : ByteList) → T a → T b → 
   lines_stand before setups last (one ∷ rest) fit canonical all texts is =
       let step = goes_ok (λ after. after_lines after rest) one.number (after_line setups one.line) last is in
       let behind : texts_from setups (one ∷ rest) ≡ texts_in setups one.line ++ texts_from step.0 rest =
-          ap (λ (o : Option Setups). texts_in setups one.line ++ unwrap_or (option_map (λ (after : Setups). texts_from after rest) o) []) step.1 in
+      ap (λ (o : Option Setups). texts_in setups one.line ++ unwrap_or (option_map (λ (after : Setups). texts_from after rest) o) []) step.1 in
       let in_all : (x : ByteList) → Contains (texts_in setups one.line ++ texts_from step.0 rest) x → T x =
-          λ x within. texts x (subst (λ (xs : List ByteList). Contains xs x) (sym behind) within) in
+      λ x within. texts x (subst (λ (xs : List ByteList). Contains xs x) (sym behind) within) in
       lines_stand (one.line ∷ before) step.0 last rest fit.1 canonical.1
       (line_stands before setups step.0 one.line fit.0 canonical.0 all
       (λ x within. in_all x (Contains-append_left (texts_in setups one.line) (texts_from step.0 rest) x within)) step.1)

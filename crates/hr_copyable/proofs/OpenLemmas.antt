@@ -1,11 +1,8 @@
 -- What canonical lines open can be copied.
-use Rattle.std.proofs.Common.{◌≡◌, ◌≢◌, ◌≤◌, ℕ, zero, suc, List, [], Option, Some, None, IfSome, Ok, refl, arith}
+use Rattle.std.proofs.Common.{◌≡◌, ◌≤◌, ℕ, zero, suc, List, [], Option, Some, None, IfSome, Ok, refl, arith}
 use Rattle.std.specs.Prelude.{Contains}
 use Rattle.hr_base.specs.Bytes.{ByteList}
-use Rattle.hr_digest.specs.Digest.{digest_of}
 use Rattle.hr_digest.specs.declared.digest.Digest.{Digest}
-use Rattle.hr_name.specs.Name.{RepoName}
-use Rattle.hr_name.specs.Tag.{TagName}
 use Rattle.hr_adapter.specs.Content.{Content, tag_at}
 use Rattle.hr_adapter.specs.Put.{as_manifest}
 use Rattle.hr_journal.specs.Origin.{Holds}
@@ -15,11 +12,11 @@ use Rattle.hr_opening.specs.Fit.{AreFit}
 use Rattle.hr_opening.specs.Opening.{after_lines}
 use Rattle.hr_opening.specs.Setup.{Setups, no_setups, setup_in}
 use Rattle.hr_copyable.specs.Canonical.{AreCanonical}
-use Rattle.hr_copyable.specs.Copyable.{HoldsTags, IsCopyable, IsHeld, OpensUndisturbed, OpensWith}
+use Rattle.hr_copyable.specs.Copyable.{HoldsTags, IsCopyable, IsHeld, OpensUndisturbed}
 use Rattle.hr_copyable.specs.LineTexts.{StoreOneText, texts_from}
 use Rattle.hr_copyable.proofs.HoldLemmas.{IsOf}
 use Rattle.hr_copyable.proofs.LineLemmas.{AllStand, SetupStands, lines_stand, none_stand}
-use Rattle.hr_copyable.proofs.StepLemmas.{ImagesReadBack, IndexesReadBack, Stands, at_tag}
+use Rattle.hr_copyable.proofs.StepLemmas.{ImagesReadBack, IndexesReadBack}
 use Rattle.hr_copyable.proofs.TreeLemmas.{FewAreReached, held_of}
 
 -- the number 0 stands for the first registry, as 1 does

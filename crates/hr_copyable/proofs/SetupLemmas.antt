@@ -1,5 +1,5 @@
 -- Registries by their numbers, as lines change them one after the other.
-use Rattle.std.proofs.Common.{◌≡◌, ◌≢◌, ◌<◌, ◌≤◌, ◌-◌, ℕ, zero, suc, List, [], ◌∷◌, length, Option, Some, None, option_map, slice_get, slice_set, unwrap_or, Result, Ok, refl, sym, ap, subst, ◌∙◌, arith}
+use Rattle.std.proofs.Common.{◌≡◌, ◌≢◌, ◌<◌, ◌≤◌, ◌-◌, ℕ, zero, suc, [], ◌∷◌, length, Option, Some, None, option_map, slice_get, slice_set, unwrap_or, Result, Ok, refl, sym, ap, ◌∙◌, arith}
 use Rattle.hr_base.specs.declared.number.RegNo.{RegNo}
 use Rattle.hr_script.specs.declared.line.Line.{Line}
 use Rattle.hr_opening.specs.Fit.{IsNumbered}

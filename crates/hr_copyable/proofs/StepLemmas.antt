@@ -1,6 +1,6 @@
 -- What a canonical line makes of the content of its registry: each tag there leads to a graph that
 -- stands whole.
-use Rattle.std.proofs.Common.{◌≡◌, ◌≢◌, ◌<◌, ◌≤◌, ◌+◌, ◌^◌, ◌&&◌, cond, ◌⊎◌, inl, inr, ℕ, suc, Bool, true, false, List, [], ◌∷◌, length, map, Option, Some, None, option_map, refl, sym, ap, subst, ◌∙◌, arith}
+use Rattle.std.proofs.Common.{◌≡◌, ◌<◌, ◌≤◌, ◌^◌, ◌&&◌, cond, inl, inr, ℕ, suc, Bool, true, false, List, [], ◌∷◌, length, map, Some, refl, sym, ap, subst, ◌∙◌, arith}
 use Rattle.std.specs.Prelude.{nat_eq}
 use Rattle.std.specs.List.{AllByRecursion}
 use Rattle.std.specs.Str.{bytes_eq}
@@ -19,7 +19,7 @@ use Rattle.hr_manifest.specs.Writable.{IsListed, IsWritable}
 use Rattle.hr_manifest.specs.declared.child.Child.{Child}
 use Rattle.hr_manifest.specs.declared.manifest.TheConstants.{CHILD_LIMIT}
 use Rattle.hr_base.specs.declared.limit.TheConstants.{MANIFEST_LIMIT}
-use Rattle.hr_adapter.specs.Content.{Content, blob_at, manifest_at, tag_at, with_manifest}
+use Rattle.hr_adapter.specs.Content.{Content, blob_at, tag_at}
 use Rattle.hr_adapter.specs.Put.{as_manifest, put_under}
 use Rattle.hr_adapter.specs.declared.registry.TheConstants.{BLOB_LIMIT}
 use Rattle.hr_adapter.proofs.ContentLaws.{tag_at-with_manifest}
@@ -28,7 +28,7 @@ use Rattle.hr_journal.proofs.ListLaws.{each_then}
 use Rattle.hr_opening.specs.Stored.{children_of, config_text, with_blobs, with_image, with_index, with_orphan}
 use Rattle.hr_script.specs.declared.line.Line.{Line}
 use Rattle.hr_script.specs.declared.line.Line.TheVariants as line
-use Rattle.hr_copyable.specs.Canonical.{IsWithin, RegTag, Tree, image_tree, index_tree, is_same_tag, tree_of, trees_of}
+use Rattle.hr_copyable.specs.Canonical.{IsWithin, Tree, at_tag, image_tree, index_tree, is_same_tag, tree_of, trees_of}
 use Rattle.hr_copyable.proofs.DigestLemmas.{whole_digest}
 use Rattle.hr_copyable.proofs.FormLemmas.{IsForm}
 use Rattle.hr_copyable.proofs.HoldLemmas.{IsOf, Keeps, blobs_keep, blobs_of, blobs_tag, blobs_there, keeps_then, manifest_keeps, manifest_of, some_same, tagged_keeps, tagged_of}
@@ -48,10 +48,6 @@ IndexesReadBack = (children : List Child) → AllByRecursion IsWritable children
     → AllByRecursion IsListed children → length children ≤ CHILD_LIMIT
     → length (index_text children) ≤ MANIFEST_LIMIT
     → Reads index_media (index_text children) children
-
--- a tag by its registry, repository and name
-abbrev pub at_tag : RegNo → RepoName → TagName → RegTag
-at_tag reg repo tag = record { reg = reg; repo = repo; tag = tag }
 
 -- the graph of a manifest stands there, within the limits
 pub record IsWholeTree (c : Content) (repo : RepoName) (d : Digest) (tree : Tree) : Type 0 where
@@ -105,8 +101,8 @@ module _ (c : Content) (before : List Line) (reg : RegNo) (repo : RepoName) (tag
   tagged_case q s d is new old false same = elim (tag_at-put_under-cases c repo tag media bytes q s) [
     | inl at ↦
         let mine : is_same_tag (at_tag reg repo tag) (at_tag reg q s) ≡ true =
-            ap (λ (p : RepoName). is_same_tag (at_tag reg repo tag) (at_tag reg p s)) at.0 ∙ ap (λ (t : TagName). is_same_tag (at_tag reg repo tag) (at_tag reg repo t)) at.1
-            ∙ same_itself reg repo tag in
+        ap (λ (p : RepoName). is_same_tag (at_tag reg repo tag) (at_tag reg p s)) at.0 ∙ ap (λ (t : TagName). is_same_tag (at_tag reg repo tag) (at_tag reg repo t)) at.1
+        ∙ same_itself reg repo tag in
         let never : true ≡ false = sym mine ∙ same in
         cc
     | inr still ↦ old (sym still ∙ is)

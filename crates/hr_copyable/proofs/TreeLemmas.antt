@@ -1,6 +1,6 @@
 -- Graphs that stand in a content, each with lists of all its blobs and manifests, and what is held of
 -- them.
-use Rattle.std.proofs.Common.{◌≡◌, ◌<◌, ◌≤◌, ◌+◌, ℕ, zero, suc, List, [], ◌∷◌, length, map, Option, Some, None, option_map, refl, sym, ap, subst, ◌∙◌, arith}
+use Rattle.std.proofs.Common.{◌≡◌, ◌≤◌, ◌+◌, ℕ, zero, suc, List, [], ◌∷◌, length, map, Option, Some, None, option_map, refl, sym, ap, subst, ◌∙◌, arith}
 use Rattle.std.specs.Prelude.{Contains}
 use Rattle.std.specs.List.{AllByRecursion}
 use Rattle.hr_base.specs.Bytes.{ByteList}
@@ -8,7 +8,7 @@ use Rattle.hr_digest.specs.Digest.{digest_of}
 use Rattle.hr_digest.specs.declared.digest.Digest.{Digest}
 use Rattle.hr_name.specs.Name.{RepoName}
 use Rattle.hr_event.specs.declared.reference.Fetched.{Fetched}
-use Rattle.hr_manifest.specs.Canonical.{config_of, image_children, image_media, image_text, layer_of}
+use Rattle.hr_manifest.specs.Canonical.{image_children, image_media, image_text, layer_of}
 use Rattle.hr_manifest.specs.Manifest.{Parts}
 use Rattle.hr_manifest.specs.Reading.{Reads}
 use Rattle.hr_manifest.specs.declared.child.Child.{Child}
@@ -180,13 +180,16 @@ module _ (c : Content) (repo : RepoName) (layers : List ByteList) where
     blobs = blobs;
     manifests = digest_of text ∷ [];
     first = contains_first (digest_of text) [];
-    nodes = (record {
-      parts = record { media = image_media; bytes = text; children = image_children config_text layers };
-      here = record { there = there; reads = reads };
-      among = (
-        digests_have (config_text ∷ layers) config_text (contains_first config_text layers),
-        blobs_among blobs layers (λ b within. digests_have (config_text ∷ layers) b (contains_later config_text layers b within)) (digest_of text ∷ []),
-      );
-    }, tt);
+    nodes = (
+      record {
+        parts = record { media = image_media; bytes = text; children = image_children config_text layers };
+        here = record { there = there; reads = reads };
+        among = (
+          digests_have (config_text ∷ layers) config_text (contains_first config_text layers),
+          blobs_among blobs layers (λ b within. digests_have (config_text ∷ layers) b (contains_later config_text layers b within)) (digest_of text ∷ []),
+        );
+      },
+      tt,
+    );
     few = let e = length_digests layers in omega (arith, e);
   }

@@ -19,12 +19,16 @@ pub record RegTag : Type 0 where
   pub repo : RepoName
   pub tag : TagName
 
+-- a tag by its registry, its repository and its name
+abbrev pub at_tag : RegNo → RepoName → TagName → RegTag
+at_tag reg repo tag = record { reg = reg; repo = repo; tag = tag }
+
 -- whether two of them are the same
 abbrev pub is_same_tag : RegTag → RegTag → Bool
 is_same_tag a b = nat_eq a.reg.0 b.reg.0 && bytes_eq a.repo b.repo && bytes_eq a.tag b.tag
 
--- the graph of a manifest, counted as a tree: how many indexes stand one below the other at most, and
--- how many blobs and manifests there are, each counted as often as it is listed
+-- the graph of a manifest, counted as a tree: how many indexes stand one below the other at most,
+-- and how many blobs and manifests there are, each counted as often as it is listed
 pub record Tree : Type 0 where
   pub depth : ℕ
   pub pairs : ℕ
@@ -47,24 +51,25 @@ index_tree trees =
 abbrev pub tree_of : List Line → RegTag → Tree
 tree_of [] named = record { depth = 0; pairs = 0 }
 tree_of (line.Image reg repo tag layers ∷ before) named =
-    if is_same_tag (record { reg = reg; repo = repo; tag = tag }) named then image_tree (length layers) else tree_of before named
+    if is_same_tag (at_tag reg repo tag) named then image_tree (length layers)
+    else tree_of before named
 tree_of (line.Index reg repo tag children ∷ before) named =
-    if is_same_tag (record { reg = reg; repo = repo; tag = tag }) named then index_tree
-        (map (λ child. tree_of before (record { reg = reg; repo = repo; tag = child })) children) else tree_of before named
+    if is_same_tag (at_tag reg repo tag) named
+    then index_tree (map (λ child. tree_of before (at_tag reg repo child)) children)
+    else tree_of before named
 tree_of (_ ∷ before) named = tree_of before named
 
 -- those that these tags of a repository lead to
 abbrev pub trees_of : List Line → RegNo → RepoName → List TagName → List Tree
-trees_of before reg repo tags =
-    map (λ tag. tree_of before (record { reg = reg; repo = repo; tag = tag })) tags
+trees_of before reg repo tags = map (λ tag. tree_of before (at_tag reg repo tag)) tags
 
 -- a graph is no deeper than it may be, and has no more pairs than a walk may meet
 pub record IsWithin (tree : Tree) : Type 0 where
   pub depth : tree.depth ≤ DEPTH_LIMIT
   pub pairs : tree.pairs ≤ PAIR_LIMIT
 
--- a line stores an image, or an index of what the lines before it stored, of no more children than a
--- manifest may list, and within the other limits; or the manifest of an image alone; or it is an event
+-- a line stores an image or an index of no more children than a manifest may list, and within the
+-- other limits, or the manifest of an image alone; or it is an event
 abbrev pub IsCanonical : List Line → Line → Type 0
 IsCanonical before (line.Image reg repo tag layers) =
     (length layers < CHILD_LIMIT) × AllByRecursion (λ layer. length layer ≤ BLOB_LIMIT) layers

@@ -1,3 +1,10 @@
-//! When all that stands in the registries of a script can be copied, and that canonical lines make
+//! When all that stands in the registries of a script can be copied, and which setup lines make
 //! such registries. It is all definitions and laws; start with `specs/Copyable.antt`.
 #![tactic(auto)]
+
+mod laws;
+
+pub use laws::{
+    canonical_lines_can_be_copied, canonical_lines_store_whole_tags,
+    copyable_registries_are_undisturbed, copyable_tags_are_whole,
+};
