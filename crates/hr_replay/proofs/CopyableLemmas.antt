@@ -1,6 +1,5 @@
 -- What can be copied by what the registries of a script open with can arrive in its session.
-use Rattle.std.proofs.Common.{◌≡◌, ◌⊎◌, inl, inr, refl, sym, ap, subst, ◌∙◌, ℕ, Bool, true, List, [], ◌∷◌, ◌++◌, length, cond, arith}
-use Rattle.std.proofs.lemmas.Bool.{cases_Bool}
+use Rattle.std.proofs.Common.{◌≡◌, inl, inr, refl, sym, ap, subst, ◌∙◌, ℕ, Bool, true, false, List, [], ◌∷◌, ◌++◌, length, cond, arith}
 use Rattle.std.proofs.lemmas.List.{length-map}
 use Rattle.std.specs.Prelude.{◌&&◌, not, Option, Some, None, IfSome, IsSome, IsTrue, Contains, if◌then◌else◌, map, nat_eq, option_map}
 use Rattle.std.specs.BTreeMap.{is_at}
@@ -53,17 +52,18 @@ some_along o p same is = subst (λ (x : _). IsSome x) (sym same) is
 found_key : (tags : List (TagName × Target)) (tag : TagName) → Contains (keys_of tags) tag
     → IsSome (lookup (is_at (slice_cmp nat_cmp tag)) tags)
 found_key [] tag (k, within, is) = absurd (omega arith)
-found_key (entry ∷ tags) tag within = by (is_at (slice_cmp nat_cmp tag) entry.0) refl
+found_key (entry ∷ tags) tag within = by (found_key tags tag) (is_at (slice_cmp nat_cmp tag) entry.0) refl
   where
     here : entry.0 ≡ tag → is_at (slice_cmp nat_cmp tag) entry.0 ≡ true
     here same = ap (λ (k : TagName). is_at (slice_cmp nat_cmp tag) k) same ∙ ap (λ (o : Ordering). is_eq o) (name_itself tag)
 
-    by : (found : Bool) → is_at (slice_cmp nat_cmp tag) entry.0 ≡ found
+    by : (Contains (keys_of tags) tag → IsSome (lookup (is_at (slice_cmp nat_cmp tag)) tags)) → (found : Bool)
+        → is_at (slice_cmp nat_cmp tag) entry.0 ≡ found
         → IsSome (cond found (Some entry.1) (lookup (is_at (slice_cmp nat_cmp tag)) tags))
-    by true is = refl
-    by false is = elim (contains_cases entry.0 (keys_of tags) tag within) [
+    by rest true is = refl
+    by rest false is = elim (contains_cases entry.0 (keys_of tags) tag within) [
       | inl same ↦ let both = sym is ∙ here same in cc
-      | inr behind ↦ found_key tags tag behind
+      | inr behind ↦ rest behind
     ]
 
 target_there : (c : Content) (repo : RepoName) (held : Repo) (tag : TagName) → repo_at c repo ≡ Some held
@@ -108,11 +108,11 @@ listed_whole c repo honest holds = by (repo_at c repo) refl
 -- what holds of each of these connections holds of the one to any registry
 each_link : (P : Reg → Type 0) (links : List Link) → AllByRecursion (λ l. P l.seen) links → (r : RegNo) → IfSome (link_at links r) P
 each_link P [] all r = tt
-each_link P (l ∷ more) all r = by (nat_eq l.reg.0 r.0)
+each_link P (l ∷ more) all r = by (each_link P more all.1 r) (nat_eq l.reg.0 r.0)
   where
-    by : (same : Bool) → IfSome (if same then Some l.seen else link_at more r) P
-    by true = all.0
-    by false = each_link P more all.1 r
+    by : IfSome (link_at more r) P → (same : Bool) → IfSome (if same then Some l.seen else link_at more r) P
+    by rest true = all.0
+    by rest false = rest
 
 -- a registry without planned changes is quiet
 quiet_of : (setup : RegSetup) → setup.moves ≡ [] → IsTrue (seen_of (registry_of setup)).quiet
@@ -142,16 +142,31 @@ pub opens_one_text : (opens : Setups) → length (registries_of opens) ≡ 8 →
     → OpensWithOneText (lane_of opens) (setup_in opens 2).content
 opens_one_text opens eight =
     of_eight (λ (opens : Setups). OpensClear opens → OpensWithOneText (lane_of opens) (setup_in opens 2).content) one opens
-    (sym (length-map registry_of opens) ∙ eight)
+    (sym (length-map opens registry_of) ∙ eight)
   where
     one : (a b c d e f g h : RegSetup) → OpensClear (a ∷ b ∷ c ∷ d ∷ e ∷ f ∷ g ∷ h ∷ [])
         → OpensWithOneText (lane_of (a ∷ b ∷ c ∷ d ∷ e ∷ f ∷ g ∷ h ∷ [])) b.content
     one a b c d e f g h clear = record {
       tell =
-          each_link (λ (f : Reg). IsTrue f.quiet × IsSome f.told) (lane_of all).sources
-          ((quiet_of a (clear.moves 1), refl), (quiet_of c (clear.moves 3), refl), (quiet_of d (clear.moves 4), refl),
-          (quiet_of e (clear.moves 5), refl), (quiet_of f (clear.moves 6), refl), (quiet_of g (clear.moves 7), refl),
-          (quiet_of h (clear.moves 8), refl), tt);
+          each_link (λ (f : Reg). IsTrue f.quiet × IsSome f.told) (lane_of all).sources (
+            (quiet_of a (clear.moves 1), refl),
+            (
+              (quiet_of c (clear.moves 3), refl),
+              (
+                (quiet_of d (clear.moves 4), refl),
+                (
+                  (quiet_of e (clear.moves 5), refl),
+                  (
+                    (quiet_of f (clear.moves 6), refl),
+                    (
+                      (quiet_of g (clear.moves 7), refl),
+                      ((quiet_of h (clear.moves 8), refl), tt),
+                    ),
+                  ),
+                ),
+              ),
+            ),
+          );
       once = λ x y first second same. clear.once x y (text_opens x first) (text_opens y second) same;
     }
       where
@@ -161,9 +176,19 @@ opens_one_text opens eight =
         from_source : (bytes : ByteList) (r : RegNo)
             → IfSome (link_at (lane_of all).sources r) (λ f. (x : Content) → f.told ≡ Some x → Holds x bytes → OpensWith all bytes)
         from_source bytes =
-            each_link (λ (f : Reg). (x : Content) → f.told ≡ Some x → Holds x bytes → OpensWith all bytes) (lane_of all).sources
-            (opens_with all 1 bytes, opens_with all 3 bytes, opens_with all 4 bytes, opens_with all 5 bytes, opens_with all 6 bytes,
-            opens_with all 7 bytes, opens_with all 8 bytes, tt)
+            each_link (λ (f : Reg). (x : Content) → f.told ≡ Some x → Holds x bytes → OpensWith all bytes) (lane_of all).sources (
+              opens_with all 1 bytes,
+              (
+                opens_with all 3 bytes,
+                (
+                  opens_with all 4 bytes,
+                  (
+                    opens_with all 5 bytes,
+                    (opens_with all 6 bytes, (opens_with all 7 bytes, (opens_with all 8 bytes, tt))),
+                  ),
+                ),
+              ),
+            )
 
         text_opens : (bytes : ByteList) → IsOpenText (lane_of all) b.content bytes → OpensWith all bytes
         text_opens bytes (IsOpenText.dest held) = record { reg = 2; held = held }
@@ -187,7 +212,7 @@ is_target opens t seen c eight clear there tells =
       now = seen;
       there = there;
       tells = tells;
-    }) opens (sym (length-map registry_of opens) ∙ eight) clear
+    }) opens (sym (length-map opens registry_of) ∙ eight) clear
 
 -- each task of the plan has a source
 pub plan_has_sources : (opens : Setups) → length (registries_of opens) ≡ 8
@@ -273,7 +298,7 @@ pub can_arrive : (opens : Setups) → length (registries_of opens) ≡ 8 → IsC
 can_arrive opens eight can listed = record {
   specs = specs_of (setup_in opens 1).content (repos_of (setup_in opens 1).content);
   planned = planned_of (setup_in opens 1).content listed;
-  each = specs_arrive opens (sym (length-map registry_of opens) ∙ eight) can (repos_of (setup_in opens 1).content);
+  each = specs_arrive opens (sym (length-map opens registry_of) ∙ eight) can (repos_of (setup_in opens 1).content);
 }
 
 -- the status where all arrives

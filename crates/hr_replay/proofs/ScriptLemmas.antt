@@ -64,7 +64,7 @@ reliable : Laws → (setups : Setups) → length (registries_of setups) ≡ 8 �
 reliable laws setups eight sound events said t runs =
     let apart = dests_apart (registries_of setups) eight in
     let holds : Holds (first_session setups) t = laws.holds (sources_of (registries_of setups)) (dests_of (registries_of setups)) []
-        (plan_of (setup_in setups 1).content) JOB_LIMIT events said t apart sound runs in
+    (plan_of (setup_in setups 1).content) JOB_LIMIT events said t apart sound runs in
     record {
       holds = holds;
       whole = λ clear seen c there tells.

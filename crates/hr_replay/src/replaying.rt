@@ -23,8 +23,8 @@ use hr_opening::{OpenRefused, Opened, open_script, plan};
 use hr_print::print_all;
 use hr_script::{Fault, Lines, SCRIPT_LIMIT, read_lines};
 use hr_session::{
-    Ended, Session, answers_have_texts, each_revision_ends_once, the_promise_holds,
-    what_can_be_copied_arrives, what_is_done_was_copied,
+    Ended, Session, answers_have_texts, each_revision_ends_once, revisions_have_sources,
+    the_promise_holds, what_can_be_copied_arrives, what_is_done_was_copied,
 };
 use std::alloc::Global;
 
@@ -67,6 +67,7 @@ pub fn replay(alloc: Global, text: &[u8]) -> Result<Replayed, Refused>
     the_promise_holds();
     each_revision_ends_once();
     what_is_done_was_copied();
+    revisions_have_sources();
     what_can_be_copied_arrives();
     canonical_lines_can_be_copied();
     let lines = match read_lines(alloc, text) {

@@ -37,6 +37,7 @@ returns-in-Ok-run-clause-ok c =
       once = c.each_revision_ends_once.ensures.once;
       done = c.what_is_done_was_copied.ensures;
       arrives = c.what_can_be_copied_arrives.ensures;
+      sources = c.revisions_have_sources.ensures;
       canonical = c.canonical_lines_can_be_copied.ensures;
     })
     c.args.text.now c.in-Ok.lines c.in-Ok-open_script.opened c.in-Ok-run.replayed.kept c.in-Ok-run.replayed.text
