@@ -32,7 +32,8 @@ keeps_then a b c first next = record {
   manifests = λ repo d m is. next.manifests repo d m (first.manifests repo d m is);
 }
 
--- a content of these texts alone, each under its own digest, and each manifest as canonical lines store it
+-- a content of these texts alone, each under its own digest, and each manifest as canonical lines
+-- store it
 pub record IsOf (T : ByteList → Type 0) (c : Content) : Type 0 where
   pub honest : Honest c
   pub blobs : (repo : RepoName) (d : Digest) (bytes : ByteList) → blob_at c repo d ≡ Some bytes → T bytes

@@ -9,3 +9,4 @@ mod OpenLemmas
 mod SetupLemmas
 mod StepLemmas
 mod TreeLemmas
+mod WorkedLemmas

@@ -57,7 +57,8 @@ pub record IsWholeTree (c : Content) (repo : RepoName) (d : Digest) (tree : Tree
 whole_keeps : (b c : Content) (repo : RepoName) (d : Digest) (tree : Tree) → Keeps b c → IsWholeTree b repo d tree → IsWholeTree c repo d tree
 whole_keeps b c repo d tree keeps is = record { graph = tree_keeps b c repo d tree keeps is.graph; within = is.within }
 
--- a content after these lines, the newest first: of these texts, and each tag leads to a whole graph
+-- a content after these lines, the newest first: it is of these texts, and each tag leads to a graph
+-- that stands whole
 pub record Stands (T : ByteList → Type 0) (before : List Line) (reg : RegNo) (c : Content) : Type 0 where
   pub of : IsOf T c
   pub graphs : (repo : RepoName) (tag : TagName) (d : Digest) → tag_at c repo tag ≡ Some d
@@ -83,7 +84,8 @@ same_itself : (reg : RegNo) (repo : RepoName) (tag : TagName) → is_same_tag (a
 same_itself reg repo tag =
     rw (eq_itself reg.0, (bytes_eq-Decides repo repo).1 refl, (bytes_eq-Decides tag tag).1 refl) refl
 
--- a manifest that was put under a tag: that tag leads to its graph, and all others to what they led to
+-- a manifest that was put under a tag: that tag leads to its graph, and all others to what they led
+-- to
 module _ (c : Content) (before : List Line) (reg : RegNo) (repo : RepoName) (tag : TagName) (media : Media) (bytes : ByteList) (tree : Tree) where
   abbrev after : Content
   after = put_under repo (by.Tag tag) media bytes c

@@ -1,5 +1,5 @@
--- Graphs that stand in a content, each with lists of all its blobs and manifests, and what is held of
--- them.
+-- Graphs that stand in a content, each with lists of all its blobs and manifests, and what is held
+-- of them.
 use Rattle.std.proofs.Common.{◌≡◌, ◌≤◌, ◌+◌, ℕ, zero, suc, List, [], ◌∷◌, length, map, Option, Some, None, option_map, refl, sym, ap, subst, ◌∙◌, arith}
 use Rattle.std.specs.Prelude.{Contains}
 use Rattle.std.specs.List.{AllByRecursion}

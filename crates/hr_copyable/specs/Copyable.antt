@@ -41,7 +41,7 @@ abbrev pub HasOneText : Setups → Type 0
 HasOneText opens =
     (a b : ByteList) → OpensWith opens a → OpensWith opens b → digest_of a ≡ digest_of b → a ≡ b
 
--- all that stands in the registries can be copied: nothing disturbs them, what the tags name is held
+-- all that stands in the registries can be copied: nothing disturbs them, what tags name is held
 -- in each that is read from (all but number 2, which is written to), and no digest stands for two
 -- texts
 pub record IsCopyable (opens : Setups) : Type 0 where

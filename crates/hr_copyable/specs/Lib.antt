@@ -1,3 +1,4 @@
 pub mod Canonical
 pub mod Copyable
 pub mod LineTexts
+pub mod Worked
