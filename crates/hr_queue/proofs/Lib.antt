@@ -1,0 +1,4 @@
+mod AddingLemmas
+mod ByJobLemmas
+mod DelayedLemmas
+mod WholeLemmas
