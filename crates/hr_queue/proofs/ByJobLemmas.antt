@@ -7,6 +7,7 @@ use Rattle.std.specs.Prelude.{◌==◌, slice_get}
 use Rattle.hr_base.specs.declared.number.JobNo.{JobNo}
 use Rattle.hr_event.specs.declared.task.Turn.{Turn}
 use Rattle.hr_queue.specs.ByJob.{rank, AllAbove, IsRising, IsOut, NoneOut}
+use Rattle.hr_queue.proofs.ListLemmas.{all-at, all-remove}
 
 -- so many turns at the front are of lower jobs
 abbrev pub Lower : ℕ → ℕ → List Turn → Type 0
@@ -128,25 +129,12 @@ rank-within job (u ∷ us) = elim (leb_tells (suc u.job.0) job) [
   | inr e ↦ rw e.0 (omega arith)
 ]
 
-pub all-remove : {X : Type 0} (P : X → Type 0) (xs : List X) (i : ℕ) → AllByRecursion P xs
-    → AllByRecursion P (remove xs i)
-all-remove P [] zero all = tt
-all-remove P [] (suc i) all = tt
-all-remove P (y ∷ ys) zero all = all.1
-all-remove P (y ∷ ys) (suc i) all = (all.0, all-remove P ys i all.1)
-
 pub rising-remove : (ts : List Turn) (i : ℕ) → IsRising ts → IsRising (remove ts i)
 rising-remove [] zero rising = tt
 rising-remove [] (suc i) rising = tt
 rising-remove (t ∷ ts) zero rising = rising.1
 rising-remove (t ∷ ts) (suc i) rising =
     (all-remove (λ u. t.job.0 < u.job.0) ts i rising.0, rising-remove ts i rising.1)
-
-all_at : (P : Turn → Type 0) (ts : List Turn) (n : ℕ) (t : Turn) → AllByRecursion P ts
-    → n < length ts → get_or ts n t ≡ t → P t
-all_at P [] n t all within is = absurd (omega (arith, within))
-all_at P (u ∷ us) zero t all within is = subst P is all.0
-all_at P (u ∷ us) (suc n) t all within is = all_at P us n t all.1 (omega (arith, within)) is
 
 -- a turn that is out stands at the place of its job
 rank-at : (ts : List Turn) (n : ℕ) (t : Turn) → IsRising ts → n < length ts → get_or ts n t ≡ t
@@ -160,7 +148,7 @@ rank-at (u ∷ us) zero t rising within is =
       | inr e ↦ rw e.0 refl
     ]
 rank-at (u ∷ us) (suc n) t rising within is =
-    let above = all_at (λ v. u.job.0 < v.job.0) us n t rising.0 (omega (arith, within)) is in
+    let above = all-at (λ v. u.job.0 < v.job.0) us n t rising.0 (omega (arith, within)) is in
     elim (leb_tells (suc u.job.0) t.job.0) [
       | inl e ↦ rw e.0 (ap suc (rank-at us n t rising.1 (omega (arith, within)) is))
       | inr e ↦ absurd (omega (arith, above, e.1))

@@ -1,10 +1,10 @@
 -- Lemmas on the words of specs/Whole.antt: each move of a turn keeps every job in one list.
-use Rattle.std.proofs.Common.{◌≡◌, ℕ, zero, suc, ◌+◌, ◌<◌, ◌≤◌, Bool, true, false, cond, List, [], ◌∷◌, ◌++◌, refl, sym, ap, ◌∙◌, subst, arith, eq-eqb, inl, inr}
+use Rattle.std.proofs.Common.{◌≡◌, ℕ, ◌+◌, ◌<◌, ◌≤◌, Bool, true, false, cond, List, [], ◌∷◌, ◌++◌, refl, sym, ap, ◌∙◌, subst, arith, eq-eqb, inl, inr}
 use Rattle.std.proofs.lemmas.Bool.Decides.{eqb_tells}
-use Rattle.std.proofs.lemmas.List.Elements.{All-from_recursion, recursion_from_All, Contains-append_left, Contains-push}
-use Rattle.std.proofs.lemmas.List.Sorted.{All-permutation, sum_by_popped, sum_by_pushed}
+use Rattle.std.proofs.lemmas.List.Elements.{All-from_recursion, Contains-append_left, Contains-push}
+use Rattle.std.proofs.lemmas.List.Sorted.{sum_by_popped, sum_by_pushed}
 use Rattle.std.proofs.lemmas.List.Sums.{sum_by-insert, sum_by-remove, sum_by-cons, sum_by_push}
-use Rattle.std.specs.List.{AllByRecursion, insert, remove}
+use Rattle.std.specs.List.{AllByRecursion, remove}
 use Rattle.std.specs.List.Sorted.{IsPermutation}
 use Rattle.std.specs.Prelude.{nat_eq}
 use Rattle.hr_base.specs.declared.status.Status.{Status}
@@ -18,7 +18,8 @@ use Rattle.hr_queue.specs.Settling.{back_of, done_of}
 use Rattle.hr_queue.specs.Taking.{IsDue}
 use Rattle.hr_queue.specs.View.{View, turn_of, job_of, times_in, times_delayed, times_added}
 use Rattle.hr_queue.specs.Whole.{IsTurn, IsAdded, HoldEach}
-use Rattle.hr_queue.proofs.ByJobLemmas.{StandsAt, rising-insert, rising-remove, all-remove}
+use Rattle.hr_queue.proofs.ByJobLemmas.{StandsAt, rising-insert, rising-remove}
+use Rattle.hr_queue.proofs.ListLemmas.{all-insert, all-remove, all-push, all-weaker, all-permuted}
 
 -- how much a turn, a delayed one, a done job and an added one add to the count of a job
 abbrev weight : ℕ → Turn → ℕ
@@ -42,29 +43,6 @@ one_at_most false = omega arith
 
 weight-self : (t : Turn) → weight t.job.0 t ≡ 1
 weight-self t = ap one_if (eq-eqb t.job.0 t.job.0 refl)
-
--- what holds of all holds of all with one more that it holds of
-all-insert : {X : Type 0} (P : X → Type 0) (xs : List X) (i : ℕ) (x : X) → AllByRecursion P xs → P x
-    → AllByRecursion P (insert xs i x)
-all-insert P [] zero x all here = (here, tt)
-all-insert P [] (suc i) x all here = (here, tt)
-all-insert P (y ∷ ys) zero x all here = (here, all)
-all-insert P (y ∷ ys) (suc i) x all here = (all.0, all-insert P ys i x all.1 here)
-
-all-push : {X : Type 0} (P : X → Type 0) (xs : List X) (x : X) → AllByRecursion P xs → P x
-    → AllByRecursion P (xs ++ x ∷ [])
-all-push P [] x all here = (here, tt)
-all-push P (y ∷ ys) x all here = (all.0, all-push P ys x all.1 here)
-
-all-weaker : {X : Type 0} (P Q : X → Type 0) → ((x : X) → P x → Q x) → (xs : List X)
-    → AllByRecursion P xs → AllByRecursion Q xs
-all-weaker P Q weaker [] all = tt
-all-weaker P Q weaker (x ∷ xs) all = (weaker x all.0, all-weaker P Q weaker xs all.1)
-
-all-permuted : {X : Type 0} (P : X → Type 0) (xs ys : List X) → IsPermutation xs ys
-    → AllByRecursion P xs → AllByRecursion P ys
-all-permuted P xs ys same all =
-    recursion_from_All P ys (All-permutation P xs ys same (All-from_recursion P xs all))
 
 -- what holds of all delayed turns holds of the one that is due, and of those that are left
 due_all : (P : Turn → Type 0) (now : ℕ) (delayed left : List Delayed) (t : Turn)

@@ -1,6 +1,7 @@
 pub mod Adding
 pub mod ByJob
 pub mod Fate
+pub mod Gains
 pub mod Room
 pub mod Settling
 pub mod Taking

@@ -6,7 +6,12 @@ mod answer;
 mod by_job;
 mod delayed;
 mod fate;
+mod laws;
 mod queue;
 
 pub use answer::{DoneJob, Queued, Settled, Taken};
+pub use laws::{
+    a_later_job_is_new, a_queue_agrees_with_its_board, done_jobs_were_over,
+    each_added_job_stands_in_one_list, gains_add_up, what_calls_gain,
+};
 pub use queue::Queue;
