@@ -1,9 +1,9 @@
 #!/bin/sh
-# How long a queue of 65,536 jobs and one of 262,144 take to be given their jobs, to give all turns
-# out, and to take them back: by job number, and mixed, as workers end them. Each job fails twice and
-# then succeeds. Takes 4 times the jobs at 4 times the time where time is linear. Prints the size of
-# the process after `reserve` and at the end: nothing but `reserve` takes memory, so both are the
-# same. Usage: sh bench/queue.sh
+# How long queues of 65,536 and 262,144 jobs take to be given their jobs, to give out the turns of
+# all, and to take all back, three times: by job number, and then twice mixed. Each job fails twice,
+# and then succeeds; after a mixed round the turns come mixed too. Where time is linear the last
+# column is level. Prints the size of the process after `reserve`, and at the end, and fails where
+# they differ: nothing but `reserve` takes memory. Usage: sh bench/queue.sh
 set -eu
 . "$(dirname "$0")/scratch.sh"
 with_crates "anyhow hr_base hr_board hr_event hr_queue" hr_base hr_board hr_text hr_digest hr_name hr_event hr_queue
@@ -250,4 +250,8 @@ fn main(rt: HostRuntime) -> Result<()> {
 RATTLE
 cd "$scratch/crates/timing"
 rt run >"$scratch/times"
-cat "$scratch/times"
+awk '
+    BEGIN { print "  jobs      ms  ns/job" }
+    $1 ~ /^Vm/ { print; if ($1 == "VmPeak:") sizes[n++] = $2; next }
+    { printf "%6d %7d %7d %s\n", $1, $2 / 1000, $2 * 1000 / $1, $3 " " $4 }
+    END { for (i = 0; i < n; i += 2) if (sizes[i] != sizes[i + 1]) exit 1 }' "$scratch/times"
