@@ -1,0 +1,4 @@
+mod LawLemmas
+mod RowLemmas
+mod StoreLemmas
+mod SweepLemmas

@@ -1,0 +1,13 @@
+use Rattle.std.proofs.Common.{arith, ℕ, ◌≡◌, ◌<◌, ◌≤◌, ◌+◌, ◌-◌, length, ap}
+use Rattle.hr_store.specs.Execution.{ExecState, last_job}
+use Rattle.hr_store.proofs.StoreLemmas.{place-row, place-past, place-between, stands}
+use Rattle.hr_store.proofs.places.find_row.Goals as goal
+
+pub returns-then-at-len : goal.returns-then-at-len
+returns-then-at-len c = place-past 0 0 _ c.args.job c.args.kept.now.items c.requires c.find_job-at.ensures (omega arith)
+
+pub returns-then-job-before : goal.returns-then-job-before
+returns-then-job-before c = place-between 0 0 c.find_job-at.result c.args.job c.index.result.now c.args.kept.now.items c.requires c.find_job-at.ensures (omega arith) c.index.ensures (omega arith)
+
+pub returns : goal.returns
+returns c = stands c.find_job-at.result c.args.job (c.args.job - c.before-before.result - 1) c.index.result.now c.args.kept.now.items c.requires c.find_job-at.ensures (omega arith) c.index.ensures (omega arith) (omega (arith, c.before-before.ensures))
