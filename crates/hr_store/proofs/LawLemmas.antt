@@ -1,22 +1,26 @@
 -- Lemmas on the laws of the store.
-use Rattle.std.proofs.Common.{◌≡◌, ◌≢◌, ℕ, ◌+◌, ◌-◌, ◌*◌, ◌<◌, ◌≤◌, Bool, true, false, cond, ◌&&◌, ◌||◌, List, [], ◌∷◌, ◌++◌, length, map, get_or, Option, Some, None, sym, ap, ◌∙◌, subst, inl, inr, arith, suc, zero, refl}
+use Rattle.std.proofs.Common.{◌≡◌, ◌≢◌, ℕ, ◌+◌, ◌-◌, ◌<◌, ◌≤◌, Bool, true, false, cond, ◌&&◌, ◌||◌, List, [], ◌∷◌, ◌++◌, length, map, Option, Some, None, sym, ap, ◌∙◌, subst, inl, inr, arith, suc, zero, refl, eq-eqb}
 use Rattle.std.proofs.lemmas.Bool.Decides.{leb_tells, eqb_tells}
 use Rattle.std.proofs.lemmas.List.Sums.{sum_by-cons}
-use Rattle.std.specs.Prelude.{nat_eq, nat_le, if◌then◌else◌, ◌⊎◌}
+use Rattle.std.specs.Prelude.{nat_eq, nat_le, if◌then◌else◌, ◌⊎◌, ◌↔◌, IsTrue, slice_index}
 use Rattle.std.specs.Option.{option_map}
-use Rattle.std.specs.List.{AllByRecursion, Contains, count_by, list_all}
+use Rattle.std.specs.List.{AllByRecursion, Contains, list_all}
 use Rattle.hr_base.specs.declared.status.Hook.{Hook}
 use Rattle.hr_base.specs.declared.status.Status.{Status}
 use Rattle.hr_base.specs.declared.status.Status.TheVariants as status
 use Rattle.hr_base.specs.declared.status.Mark.TheVariants.{At}
 use Rattle.hr_base.specs.Status.{word_of}
+use Rattle.hr_board.specs.Current.{NoneOpened}
+use Rattle.hr_board.specs.Over.{EndsJob}
+use Rattle.hr_board.specs.View as board
+use Rattle.hr_board.specs.View.{Word, place_of}
+use Rattle.hr_store.specs.Row.{RowState, is_among, is_over, ends_job, row_with, same_hook}
 use Rattle.hr_store.specs.Execution.{ExecState, has_ended, last_job}
-use Rattle.hr_store.specs.Laws.{Goes, IsUnopenedOrStopped, PutsHook, RowIsOver, RowStays, Stays, TakenIsPut, hooks_of_job}
-use Rattle.hr_store.specs.Row.{RowState, ends_job, hook_number, is_among, is_over, row_with}
-use Rattle.hr_store.specs.Store.{AreNumbered, AreOrdered, FailsBare, exec_numbered, execs_hearing, first_row, row_among, row_hearing, row_of_job}
+use Rattle.hr_store.specs.Store.{AreNumbered, AreOrdered, FailsBare, StoreState, exec_numbered, execs_hearing, first_row, row_among, row_hearing, row_of_job}
 use Rattle.hr_store.specs.Sweeping.{ended_of, is_dropped, is_ended_of, kept_by}
-use Rattle.hr_base.specs.declared.number.JobNo.{JobNo}
-use Rattle.hr_store.proofs.StoreLemmas.{ordered-kept, exec-low, of-low, row-high}
+use Rattle.hr_store.specs.Laws.{IsUnopenedOrStopped, OpensInTurn, RowIsOver, RowStays, Stays, TakenIsPut, hooks_of_job}
+use Rattle.hr_store.proofs.RowLemmas.{same-from}
+use Rattle.hr_store.proofs.StoreLemmas.{exec-low, of-low, ordered-kept, row-high}
 
 in-heard : (h : Hook) (job : ℕ) (rs : List RowState) → row_among job (map (row_hearing h) rs) ≡ option_map (row_hearing h) (row_among job rs)
 in-heard h job [] = refl
@@ -178,59 +182,107 @@ row-stays a b keep job (e ∷ es) o f =
       ]
     ]
 
--- words after a final one
-after-over : (words : ℕ → ℕ) (rev n k : ℕ) → words rev ≢ 5 → ((r : ℕ) → IsUnopenedOrStopped (words (suc r)) ⊎ (words r ≡ 5)) → k ≡ rev + n + 1 → IsUnopenedOrStopped (words k)
-after-over words rev zero k f o e =
-    let P : ℕ → Type 0 = λ m. IsUnopenedOrStopped (words m) in
-    let q : suc rev ≡ k = omega (arith, e) in
-    elim (o rev) [ inl u ↦ subst P q u | inr x ↦ absurd (f x) ]
-after-over words rev (suc n) k f o e =
-    let P : ℕ → Type 0 = λ m. IsUnopenedOrStopped (words m) in
-    let q : suc (rev + n + 1) ≡ k = omega (arith, e) in
-    let u = after-over words rev n (rev + n + 1) f o refl in
-    elim (o (rev + n + 1)) [
-      | inl v ↦ subst P q v
-      | inr x ↦ absurd (elim u [ inl z ↦ omega (arith, z, x) | inr z ↦ omega (arith, z, x) ])
-    ]
+-- ---- when a row's job is over
 
-find-last : (words : ℕ → ℕ) (attempts rev d : ℕ) → rev + d ≤ 3 → 1 ≤ words rev → IsOverWord attempts rev (words rev) → ((k : ℕ) → rev < k → IsUnopenedOrStopped (words k)) → ((r : ℕ) → rev + d < r → r ≤ 3 → words r ≡ 0) → IsOver words attempts
-find-last words attempts rev zero s w v u h = record {
-  rev = rev;
-  current = record { small = omega (arith, s); opened = w; last = λ r l m. h r (omega (arith, l)) m };
-  over = v;
-}
-find-last words attempts rev (suc d) s w v u h = elim (u (rev + suc d) (omega arith)) [
-  | inl z ↦ find-last words attempts rev d (omega (arith, s)) w v u (λ r l m. elim (eqb_tells r (rev + suc d)) [
-    | inl q ↦ (let W : ℕ → ℕ = words in ap W q.1 ∙ z)
-    | inr q ↦ h r (omega (arith, l, q.1)) m
-  ])
-  | inr z ↦ record {
-    rev = rev + suc d;
-    current = record { small = s; opened = omega (arith, z); last = h };
-    over = inl z;
-  }
+unended : (attempts rev : ℕ) (st : Status) → (st ≡ status.Success → ⊥) → (st ≡ status.Stopped → ⊥) → (st ≡ status.Error → ⊥) → EndsJob attempts (rev, st) → ⊥
+unended attempts rev st f g h (inl e) = f e
+unended attempts rev st f g h (inr (inl e)) = g e
+unended attempts rev st f g h (inr (inr e)) = h e.0
+
+ends-error : (attempts rev : ℕ) → EndsJob attempts (rev, status.Error) → ends_job attempts rev status.Error ≡ true
+ends-error attempts rev (inl e) = absurd (let x : status.Error ≡ status.Success = e in cc)
+ends-error attempts rev (inr (inl e)) = absurd (let x : status.Error ≡ status.Stopped = e in cc)
+ends-error attempts rev (inr (inr e)) = eq-eqb (rev + 1) attempts e.1
+
+pub ends-says : (attempts rev : ℕ) (st : Status) → IsTrue (ends_job attempts rev st) ↔ EndsJob attempts (rev, st)
+ends-says attempts rev status.Success = (λ t. inl refl, λ e. refl)
+ends-says attempts rev status.Stopped = (λ t. inr (inl refl), λ e. refl)
+ends-says attempts rev status.Error = (λ t. inr (inr (refl, eq-true (rev + 1) attempts t)), ends-error attempts rev)
+ends-says attempts rev status.Pending = (
+  λ t. absurd (let x : false ≡ true = t in cc),
+  λ e. absurd (unended attempts rev status.Pending (λ q. let x : status.Pending ≡ status.Success = q in cc) (λ q. let x : status.Pending ≡ status.Stopped = q in cc) (λ q. let x : status.Pending ≡ status.Error = q in cc) e),
+)
+ends-says attempts rev status.Scheduled = (
+  λ t. absurd (let x : false ≡ true = t in cc),
+  λ e. absurd (unended attempts rev status.Scheduled (λ q. let x : status.Scheduled ≡ status.Success = q in cc) (λ q. let x : status.Scheduled ≡ status.Stopped = q in cc) (λ q. let x : status.Scheduled ≡ status.Error = q in cc) e),
+)
+ends-says attempts rev status.Running = (
+  λ t. absurd (let x : false ≡ true = t in cc),
+  λ e. absurd (unended attempts rev status.Running (λ q. let x : status.Running ≡ status.Success = q in cc) (λ q. let x : status.Running ≡ status.Stopped = q in cc) (λ q. let x : status.Running ≡ status.Error = q in cc) e),
+)
+
+-- no revision is open after one that is not at Error
+none-after : (words : List Word) (job first : ℕ) → OpensInTurn words job → slice_index words (place_of job first) ≢ 5
+    → (more : ℕ) → first + more < 3 → slice_index words (place_of job (first + more + 1)) ≡ 0
+none-after words job first turns here zero few = elim (eqb_tells (slice_index words (place_of job (first + zero + 1))) 0) [
+  | inl none ↦ none.1
+  | inr opened ↦
+      let again = turns (first + zero) few opened.1 in
+      let W : ℕ → ℕ = λ rev. slice_index words (place_of job rev) in
+      let k : first ≡ first + zero = omega arith in
+      absurd (here (ap W k ∙ again))
+]
+none-after words job first turns here (suc more) few = elim (eqb_tells (slice_index words (place_of job (first + suc more + 1))) 0) [
+  | inl none ↦ none.1
+  | inr opened ↦
+      let failed = turns (first + suc more) few opened.1 in
+      let before = none-after words job first turns here more (omega (arith, few)) in
+      let W : ℕ → ℕ = λ rev. slice_index words (place_of job rev) in
+      let k : first + suc more ≡ first + more + 1 = omega arith in
+      let same = ap W k in
+      absurd (omega (arith, failed, before, same))
 ]
 
-over-from : (words : ℕ → ℕ) (attempts rev : ℕ) → rev ≤ 3 → IsOverWord attempts rev (words rev) → ((r : ℕ) → IsUnopenedOrStopped (words (suc r)) ⊎ (words r ≡ 5)) → ((r : ℕ) → attempts ≤ r → IsUnopenedOrStopped (words r)) → IsOver words attempts
-over-from words attempts rev s v o p =
-    let opened : 1 ≤ words rev = elim v [ inl x ↦ omega (arith, x) | inr y ↦ elim y [ inl x ↦ omega (arith, x) | inr x ↦ omega (arith, x.0) ] ] in
-    find-last words attempts rev (3 - rev) (omega (arith, s)) opened v
-    (λ k l. elim v [
-      | inl x ↦ after-over words rev (k - rev - 1) k (λ f. omega (arith, x, f)) o (omega (arith, l))
-      | inr y ↦ elim y [
-        | inl x ↦ after-over words rev (k - rev - 1) k (λ f. omega (arith, x, f)) o (omega (arith, l))
-        | inr x ↦ p k (omega (arith, l, x.1))
+-- none is open after the one that ends a job
+ended-last : (words : List Word) (job attempts rev : ℕ) (st : Status) → OpensInTurn words job → attempts ≤ 4 → slice_index words (place_of job rev) ≡ word_of (At st)
+    → EndsJob attempts (rev, st) → NoneOpened words job (rev + 1) attempts
+ended-last words job attempts rev st turns few word ends = λ r l m.
+    let k : rev + (r - (rev + 1)) + 1 ≡ r = omega (arith, l) in
+    let W : ℕ → ℕ = λ v. slice_index words (place_of job v) in
+    let T : Status → ℕ = λ v. word_of (At v) in
+    elim ends [
+      | inl e ↦ (let t = ap T e in sym (ap W k) ∙ none-after words job rev turns (λ f. omega (arith, f, t, word)) (r - (rev + 1)) (omega (arith, l, m, few)))
+      | inr o ↦ elim o [
+        | inl e ↦ (let t = ap T e in sym (ap W k) ∙ none-after words job rev turns (λ f. omega (arith, f, t, word)) (r - (rev + 1)) (omega (arith, l, m, few)))
+        | inr e ↦ absurd (omega (arith, e.1, l, m))
       ]
-    ])
-    (λ r l m. absurd (omega (arith, l, m, s)))
+    ]
 
-pub row-over : RowIsOver
-row-over words attempts rev status.Success v s w o p = over-from words attempts rev s (inr (inl w)) o p
-row-over words attempts rev status.Stopped v s w o p = over-from words attempts rev s (inl w) o p
-row-over words attempts rev status.Error v s w o p = over-from words attempts rev s (inr (inr (w, eq-true (rev + 1) attempts v))) o p
-row-over words attempts rev status.Pending v s w o p = absurd (let x : false ≡ true = v in cc)
-row-over words attempts rev status.Scheduled v s w o p = absurd (let x : false ≡ true = v in cc)
-row-over words attempts rev status.Running v s w o p = absurd (let x : false ≡ true = v in cc)
+-- a word past the attempts that ends a job is Stopped
+past-stopped : (attempts rev : ℕ) (st : Status) → attempts ≤ rev → EndsJob attempts (rev, st) → IsUnopenedOrStopped (word_of (At st)) → word_of (At st) ≡ 4
+past-stopped attempts rev st l (inl e) w = let T : Status → ℕ = λ v. word_of (At v) in let t = ap T e in elim w [ inl z ↦ absurd (omega (arith, z, t)) | inr z ↦ z ]
+past-stopped attempts rev st l (inr (inl e)) w = let T : Status → ℕ = λ v. word_of (At v) in let t = ap T e in omega (arith, t)
+past-stopped attempts rev st l (inr (inr e)) w = absurd (omega (arith, e.1, l))
+
+pub row-over : (words : List Word) (job attempts rev : ℕ) (st : Status) → RowIsOver words job attempts rev st
+row-over words job attempts rev st turns past some few small word ends = elim (leb_tells (suc rev) attempts) [
+  | inl q ↦ record {
+    row = (rev, st);
+    current = inl (record { within = omega (arith, q.1); word = word; last = ended-last words job attempts rev st turns few word ends });
+    ends = ends;
+  }
+  | inr q ↦ (
+      let U : ℕ → Type 0 = IsUnopenedOrStopped in
+      let stopped = past-stopped attempts rev st (omega (arith, q.1)) ends (subst U word (past rev (omega (arith, q.1)) small)) in
+      let W : ℕ → ℕ = λ v. slice_index words (place_of job v) in
+      let k : rev - 1 + 1 ≡ rev = omega (arith, q.1, some) in
+      let same = ap W k in
+      let failed = turns (rev - 1) (omega (arith, small, q.1, some)) (λ z. omega (arith, z, same, word, stopped)) in
+      elim (leb_tells attempts (rev - 1)) [
+        | inl p ↦ absurd (elim (past (rev - 1) p.1 (omega (arith, small))) [ inl z ↦ omega (arith, z, failed) | inr z ↦ omega (arith, z, failed) ])
+        | inr p ↦ (
+            let n : rev - 1 ≡ attempts - 1 = omega (arith, p.1, q.1, some) in
+            record {
+              row = (attempts - 1, status.Error);
+              current = inl (record {
+                within = omega (arith, some);
+                word = sym (ap W n) ∙ failed;
+                last = λ r l m. absurd (omega (arith, l, m, some));
+              });
+              ends = inr (inr (refl, omega (arith, some)));
+            })
+      ])
+]
 
 row-in-job : (job : ℕ) (r : RowState) (rs : List RowState) → row_among job rs ≡ Some r → r.job ≡ job
 row-in-job job r [] e = absurd (let x : None ≡ Some r = e in cc)
@@ -252,13 +304,13 @@ heard-own h v e = elim (eqb_tells v.job h.job.0) [ inl q ↦ rw q.0 refl | inr q
 heard-other : (h : Hook) (v : RowState) → v.job ≢ h.job.0 → row_hearing h v ≡ v
 heard-other h v f = elim (eqb_tells v.job h.job.0) [ inl q ↦ absurd (f q.1) | inr q ↦ rw q.0 refl ]
 
-pub heard-put : TakenIsPut
-heard-put s r b c h raised k =
+pub heard-put : (s : StoreState) (b : board.View) (h : Hook) (raised : Bool) (r : StoreState) (c : board.View) → TakenIsPut s b h raised r c
+heard-put s b h raised r c k =
     let K : StoreState → List ExecState = λ v. v.kept in
     let M : Option RowState → Option RowState = λ o. option_map (row_hearing h) o in
     let H : Option RowState → Option (List Hook) = λ o. option_map (λ v. v.received) o in
     let R : ℕ → List ExecState → Option (List Hook) = λ job es. hooks_of_job job es in
-    let after : (job : ℕ) → row_of_job job r.kept ≡ option_map (row_hearing h) (row_of_job job s.kept) = λ job. (let W : List ExecState → Option RowState = λ es. row_of_job job es in ap W (ap K k.after) ∙ of-heard h job s.kept) in
+    let after : (job : ℕ) → row_of_job job r.kept ≡ option_map (row_hearing h) (row_of_job job s.kept) = λ job. (let W : List ExecState → Option RowState = λ es. row_of_job job es in ap W (ap K k.after_is) ∙ of-heard h job s.kept) in
     let O : RowState → Option (List Hook) = λ v. Some v.received in
     record {
       old = k.row.received;
@@ -269,6 +321,8 @@ heard-put s r b c h raised k =
         | inr v ↦ rw v.1 (ap O (heard-other h v.0 (λ e. f (sym (row-of-job job v.0 s.kept v.1) ∙ e))))
       ]);
     }
+
+-- ---- hooks among others
 
 status-by : ℕ → Status
 status-by n = if nat_eq n 1 then status.Pending else (if nat_eq n 2 then status.Scheduled else (if nat_eq n 3 then status.Running else (if nat_eq n 4 then status.Stopped else (if nat_eq n 5 then status.Error else status.Success))))
@@ -282,26 +336,20 @@ by-word status.Stopped = refl
 by-word status.Error = refl
 by-word status.Success = refl
 
-word-range : (st : Status) → (1 ≤ word_of (At st)) × (word_of (At st) ≤ 6)
-word-range status.Pending = (omega arith, omega arith)
-word-range status.Scheduled = (omega arith, omega arith)
-word-range status.Running = (omega arith, omega arith)
-word-range status.Stopped = (omega arith, omega arith)
-word-range status.Error = (omega arith, omega arith)
-word-range status.Success = (omega arith, omega arith)
-
-same-hook : (x h : Hook) → x.job ≡ h.job → hook_number x ≡ hook_number h → x ≡ h
-same-hook x h j e =
-    let a = word-range x.status in
-    let b = word-range h.status in
-    let r : x.rev ≡ h.rev = omega (arith, a.0, a.1, b.0, b.1, e) in
-    let w : word_of (At x.status) ≡ word_of (At h.status) = omega (arith, a.0, a.1, b.0, b.1, e) in
+one-hook : (x h : Hook) → same_hook x h ≡ true → x ≡ h
+one-hook x h e =
+    let b = both (nat_eq x.job.0 h.job.0) _ e in
+    let d = both (nat_eq x.rev h.rev) _ b.1 in
     let S : ℕ → Status = status-by in
+    let w = eq-true (word_of (At x.status)) (word_of (At h.status)) d.1 in
     let s : x.status ≡ h.status = sym (by-word x.status) ∙ (ap S w ∙ by-word h.status) in
-    let A : JobNo → Hook = λ v. record { job = v; rev = x.rev; status = x.status } in
+    let A : ℕ → Hook = λ v. record { job = record { 0 = v }; rev = x.rev; status = x.status } in
     let B : ℕ → Hook = λ v. record { job = h.job; rev = v; status = x.status } in
     let C : Status → Hook = λ v. record { job = h.job; rev = h.rev; status = v } in
-    ap A j ∙ (ap B r ∙ ap C s)
+    ap A (eq-true x.job.0 h.job.0 b.0) ∙ (ap B (eq-true x.rev h.rev d.0) ∙ ap C s)
+
+same-itself : (h : Hook) → same_hook h h ≡ true
+same-itself h = same-from h h refl refl refl
 
 hook-first : (x h : Hook) (hs : List Hook) → x ≡ h → Contains (x ∷ hs) h
 hook-first x h hs e = (0, omega arith, e)
@@ -309,9 +357,24 @@ hook-first x h hs e = (0, omega arith, e)
 hook-later : (x h : Hook) (hs : List Hook) → Contains hs h → Contains (x ∷ hs) h
 hook-later x h hs c = let l = c.1 in (suc c.0, omega (arith, l), c.2)
 
-pub there-in : ThereIsIn
-there-in [] h a e = absurd (let x : false ≡ true = e in cc)
-there-in (x ∷ hs) h a e = elim (bool-is (nat_eq (hook_number x) (hook_number h))) [
-  | inl q ↦ hook-first x h hs (same-hook x h a.0 (eq-true (hook_number x) (hook_number h) q))
-  | inr q ↦ (let f = rw q at e in hook-later x h hs (there-in hs h a.1 f))
+among-in : (hs : List Hook) (h : Hook) → is_among hs h ≡ true → Contains hs h
+among-in [] h e = absurd (let x : false ≡ true = e in cc)
+among-in (x ∷ hs) h e = elim (bool-is (same_hook x h)) [
+  | inl q ↦ hook-first x h hs (one-hook x h q)
+  | inr q ↦ (let B : Bool → Bool = λ b. b || is_among hs h in hook-later x h hs (among-in hs h (sym (ap B q) ∙ e)))
 ]
+
+or-left : (a b : Bool) → a ≡ true → (a || b) ≡ true
+or-left a b e = let B : Bool → Bool = λ v. v || b in ap B e
+
+or-right : (a b : Bool) → b ≡ true → (a || b) ≡ true
+or-right true b e = refl
+or-right false b e = e
+
+in-among : (hs : List Hook) (h : Hook) → Contains hs h → is_among hs h ≡ true
+in-among [] h (i, l, e) = absurd (omega (arith, l))
+in-among (x ∷ hs) h (zero, l, e) = or-left (same_hook x h) (is_among hs h) (let S : Hook → Bool = λ v. same_hook v h in ap S e ∙ same-itself h)
+in-among (x ∷ hs) h (suc i, l, e) = or-right (same_hook x h) (is_among hs h) (in-among hs h (i, omega (arith, l), e))
+
+pub among-says : (hs : List Hook) (h : Hook) → IsTrue (is_among hs h) ↔ Contains hs h
+among-says hs h = (among-in hs h, in-among hs h)

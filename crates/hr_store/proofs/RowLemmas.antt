@@ -1,8 +1,8 @@
 -- Lemmas on received hooks and counters.
-use Rattle.std.proofs.Common.{◌≡◌, ℕ, ◌+◌, ◌-◌, ◌*◌, ◌<◌, ◌≤◌, Bool, true, false, cond, ◌||◌, ◌&&◌, List, [], ◌∷◌, ◌++◌, length, get_or, set, slice_get, Some, sym, ap, ◌∙◌, subst, refl, arith, rules, suc, zero, inl, inr, eq-eqb}
+use Rattle.std.proofs.Common.{◌≡◌, ℕ, ◌+◌, ◌<◌, ◌≤◌, Bool, true, false, ◌||◌, ◌&&◌, List, [], ◌∷◌, ◌++◌, length, get_or, set, slice_get, Some, sym, ap, ◌∙◌, subst, refl, arith, rules, suc, zero, inl, inr, eq-eqb}
 use Rattle.std.proofs.lemmas.Bool.Decides.{eqb_tells, leb_tells}
 use Rattle.std.specs.Prelude.{nat_eq, nat_lt, ◌≢◌, ◌⊎◌, ◌↔◌, IsTrue, not, if◌then◌else◌}
-use Rattle.std.specs.List.{AllByRecursion, sum_by, count_by, list_any, list_all}
+use Rattle.std.specs.List.{AllByRecursion, count_by, list_any, list_all}
 use Rattle.std.proofs.lemmas.List.Sums.{sum_by-cons, sum_by_push, sum_by-set}
 use Rattle.hr_base.specs.declared.status.Status.{Status}
 use Rattle.hr_base.specs.declared.status.Status.TheVariants as status
@@ -10,8 +10,8 @@ use Rattle.hr_base.specs.declared.status.Mark.TheVariants.{At}
 use Rattle.hr_base.specs.declared.status.Hook.{Hook}
 use Rattle.hr_base.specs.Status.{word_of}
 use Rattle.hr_base.specs.Merge.{joined, first_greatest}
-use Rattle.hr_store.specs.Execution.{CountRows, RowReceives, any_at, is_error, is_stopped, is_success, is_unfinished, one_if, rows_at, status_by}
-use Rattle.hr_store.specs.Row.{OnceEach, RoseIf, RowState, ends_job, hook_number, is_among, is_over, row_status, row_with, same_hook, with_hook}
+use Rattle.hr_store.specs.Execution.{CountRows, any_at, is_error, is_stopped, is_success, is_unfinished, one_if, rows_at, status_by}
+use Rattle.hr_store.specs.Row.{OnceEach, RoseIf, RowState, ends_job, hook_number, is_among, is_over, row_status, same_hook, with_hook}
 use Rattle.hr_event.specs.declared.view.ExecStatus.{ExecStatus}
 use Rattle.hr_event.specs.declared.view.ExecStatus.TheVariants as stands
 

@@ -1,17 +1,18 @@
 -- Lemmas on executions in order.
-use Rattle.std.proofs.Common.{◌≡◌, ◌≢◌, ℕ, ◌+◌, ◌-◌, ◌^◌, ◌<◌, ◌≤◌, Bool, true, false, cond, List, [], ◌∷◌, ◌++◌, length, map, get_or, set, take, slice_get, Option, Some, None, sym, ap, ◌∙◌, subst, inl, inr, arith, suc, zero, refl}
+use Rattle.std.proofs.Common.{◌≡◌, ◌≢◌, ℕ, ◌+◌, ◌-◌, ◌^◌, ◌<◌, ◌≤◌, Bool, true, false, List, [], ◌∷◌, ◌++◌, length, map, get_or, set, take, slice_get, Option, Some, None, sym, ap, ◌∙◌, subst, inl, inr, arith, suc, zero, refl}
 use Rattle.std.proofs.lemmas.Bool.Decides.{leb_tells, eqb_tells}
-use Rattle.std.specs.Prelude.{nat_eq, nat_lt, if◌then◌else◌, IsSome}
+use Rattle.std.specs.Prelude.{nat_eq, if◌then◌else◌, IsSome}
 use Rattle.indexmap.specs.IndexMap.{IndexMap, get}
 use Rattle.hr_store.specs.Creating.{new_rows}
 use Rattle.hr_store.specs.Execution.{ExecState, RowReceives, last_job}
 use Rattle.hr_store.specs.Places.{RowStands, rank_by}
 use Rattle.hr_store.specs.Receiving.{FindsWord, ReceivesHook, TakesHook}
-use Rattle.hr_store.specs.Row.{RowState, row_with, with_hook}
-use Rattle.hr_store.specs.Store.{AreMade, AreNumbered, AreOrdered, FailsBare, IsSound, exec_failing, exec_hearing, exec_numbered, execs_failing, execs_hearing, first_row, row_among, row_hearing, row_of_job}
+use Rattle.hr_store.specs.Row.{RowState, row_with}
+use Rattle.hr_store.specs.Store.{AreMade, AreNumbered, AreOrdered, FailsBare, IsSound, StoreState, exec_hearing, exec_numbered, execs_failing, execs_hearing, first_row, row_among, row_hearing, row_of_job}
 use Rattle.hr_store.specs.Sweeping.{is_dropped, kept_by}
 use Rattle.hr_board.specs.View as board
 use Rattle.hr_base.specs.declared.status.Mark.{Mark}
+use Rattle.hr_base.specs.Status.{Covers}
 use Rattle.hr_event.specs.declared.view.Received.{Received}
 use Rattle.hr_event.specs.declared.view.Received.TheVariants as received
 use Rattle.std.specs.List.{AllByRecursion}
@@ -435,10 +436,10 @@ bare-failed a b exec (e ∷ es) o s f = elim (eqb_tells e.exec exec) [
 
 -- what a store keeps to, after each call
 pub sound-failed : {S : Type 0} (limit jobs made exec : ℕ) (es : List ExecState) (counts : IndexMap ℕ ℕ S) → IsSound limit jobs made es counts → ((e : ExecState) → exec_numbered exec es ≡ Some e → e.rows ≡ []) → IsSound limit jobs made (execs_failing exec es) counts
-sound-failed limit jobs made exec es counts s f = record { no_rows = bare-failed 0 0 exec es s.ordered s.no_rows f; few = s.few; numbers = s.numbers; within = s.within; ordered = failed-ordered 0 0 exec es s.ordered; were_made = failed-made made jobs exec es s.were_made; counted = failed-counted counts exec es s.counted }
+sound-failed limit jobs made exec es counts s f = record { no_rows = bare-failed 0 0 exec es s.ordered s.no_rows f; few = s.few; numbers = s.numbers; within = s.within; ordered = failed-ordered 0 0 exec es s.ordered; were_made = failed-made made jobs exec es s.were_made; countable = failed-counted counts exec es s.countable }
 
 pub sound-heard : {S : Type 0} (limit jobs made : ℕ) (h : Hook) (es : List ExecState) (counts : IndexMap ℕ ℕ S) → IsSound limit jobs made es counts → IsSound limit jobs made (execs_hearing h es) counts
-sound-heard limit jobs made h es counts s = record { no_rows = bare-heard h es s.no_rows; few = s.few; numbers = s.numbers; within = s.within; ordered = ordered-heard 0 0 h es s.ordered; were_made = made-heard made jobs h es s.were_made; counted = counted-heard counts h es s.counted }
+sound-heard limit jobs made h es counts s = record { no_rows = bare-heard h es s.no_rows; few = s.few; numbers = s.numbers; within = s.within; ordered = ordered-heard 0 0 h es s.ordered; were_made = made-heard made jobs h es s.were_made; countable = counted-heard counts h es s.countable }
 
 pub sound-swept : {S : Type 0} (limit jobs made keep : ℕ) (es : List ExecState) (counts after : IndexMap ℕ ℕ S) → IsSound limit jobs made es counts → ((p : ℕ) → IsSome (get nat_eq counts p) → IsSome (get nat_eq after p)) → IsSound limit jobs made (kept_by keep es) after
 sound-swept limit jobs made keep es counts after s f = record {
@@ -448,7 +449,7 @@ sound-swept limit jobs made keep es counts after s f = record {
   within = s.within;
   ordered = ordered-kept 0 0 keep es s.ordered;
   were_made = all-kept (λ e. (e.exec ≤ made) × (last_job e ≤ jobs)) keep es s.were_made;
-  counted = some-more counts after (kept_by keep es) f (all-kept (λ e. IsSome (get nat_eq counts e.policy.0)) keep es s.counted);
+  countable = some-more counts after (kept_by keep es) f (all-kept (λ e. IsSome (get nat_eq counts e.policy.0)) keep es s.countable);
 }
 
 pub sound-made : {S : Type 0} (limit jobs made n : ℕ) (es : List ExecState) (e : ExecState) (counts after : IndexMap ℕ ℕ S) → IsSound limit jobs made es counts → ((p : ℕ) → IsSome (get nat_eq counts p) → IsSome (get nat_eq after p))
@@ -460,7 +461,7 @@ sound-made limit jobs made n es e counts after s f g x b l r w m p = record {
   within = w;
   ordered = ordered-push 0 0 made jobs es e s.ordered s.were_made (omega arith) (omega arith) (omega (arith, x)) (omega (arith, b)) r;
   were_made = made-push made jobs (made + 1) (jobs + n) es e s.were_made (omega arith) (omega arith) (omega (arith, x)) (omega (arith, b, l));
-  counted = counted-push after es e (some-more counts after es f s.counted) g;
+  countable = counted-push after es e (some-more counts after es f s.countable) g;
 }
 
 pub stands : (i job k : ℕ) (e : ExecState) (es : List ExecState) → AreOrdered 0 0 es → i ≡ rank_by last_job job es → i < length es → e ≡ get_or es i e → e.before < job → k ≡ job - e.before - 1 → RowStands es job i k
@@ -506,13 +507,34 @@ stands-heard kept h at place e new raised o s q r n =
       ap N n ∙ (ap R r.set ∙ place-hear 0 0 at place h e r.row kept o s.rank s.within q few row job),
     )
 
+job-at : (n k : ℕ) (r : RowState) (rs : List RowState) → AreNumbered n rs → slice_get rs k ≡ Some r → r.job ≡ n + k + 1
+job-at n zero r [] a e = absurd (cc)
+job-at n (suc k) r [] a e = absurd (cc)
+job-at n zero r (s ∷ rs) a e = let J : Option RowState → ℕ = λ o. (some_or r o).job in let j = ap J e in omega (arith, j, a.0)
+job-at n (suc k) r (s ∷ rs) a e = let j = job-at (suc n) k r rs a.1 e in omega (arith, j)
+
+numbered-at : (a b i : ℕ) (e : ExecState) (es : List ExecState) → AreOrdered a b es → i < length es → e ≡ get_or es i e → AreNumbered e.before e.rows
+numbered-at a b i e [] o l q = absurd (omega (arith, l))
+numbered-at a b zero e (u ∷ us) o l q = let N : ExecState → Type 0 = λ v. AreNumbered v.before v.rows in subst N (sym q) o.2
+numbered-at a b (suc i) e (u ∷ us) o l q = numbered-at u.exec (last_job u) i e us o.3 (omega (arith, l)) q
+
+-- the row at the place of a job is that of the job
+pub right-job : (kept : List ExecState) (h : Hook) (at place : ℕ) (e : ExecState) (r : RowState) → AreOrdered 0 0 kept → RowStands kept h.job.0 at place → e ≡ get_or kept at e
+    → slice_get e.rows place ≡ Some r → h.job.0 ≡ r.job
+right-job kept h at place e r o s q g =
+    let same = one-at kept at e s.exec s.within q s.exec_is in
+    let B : ExecState → ℕ = λ v. v.before in
+    let bef = ap B same in
+    let j = job-at e.before place r e.rows (numbered-at 0 0 at e kept o s.within q) g in
+    omega (arith, bef, j, s.job_is)
+
 pub heard-hook : (limit jobs made : ℕ) (kept : List ExecState) (b c : board.View) (h : Hook) (mark : Mark) (at place : ℕ) (e new : ExecState) (raised : Bool) → AreOrdered 0 0 kept → RowStands kept h.job.0 at place → e ≡ get_or kept at e
-    → RowReceives e.rows place h raised new.rows → new ≡ record e { rows = new.rows } → FindsWord b h mark c → covers mark h.status ≡ true
+    → RowReceives e.rows place h raised new.rows → new ≡ record e { rows = new.rows } → FindsWord b h mark c → Covers mark h.status
     → TakesHook (record { limit = limit; jobs = jobs; made = made; kept = kept }) b h raised (record { limit = limit; jobs = jobs; made = made; kept = set kept at new }) c
 heard-hook limit jobs made kept b c h mark at place e new raised o s q r n l w =
     let k = stands-heard kept h at place e new raised o s q r n in
     let V : List ExecState → StoreState = λ ks. record { limit = limit; jobs = jobs; made = made; kept = ks } in
-    record { row = r.row; there = k.0; mark = mark; looks = l; confirmed = w; after = ap V k.1; rose = r.rose }
+    record { row = r.row; there = k.0; mark = mark; found = l; covered = w; after_is = ap V k.1; rose = r.rose }
 
 pub receives-raised : (s r : StoreState) (b c : board.View) (h : Hook) (raised : Bool) (answer : Received) → raised ≡ true → answer ≡ received.Raised → TakesHook s b h raised r c → ReceivesHook s b h answer r c
 receives-raised s r b c h raised answer t a k =

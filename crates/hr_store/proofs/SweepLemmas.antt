@@ -1,14 +1,12 @@
 -- Lemmas on sweeps.
-use Rattle.std.proofs.Common.{◌≡◌, ℕ, ◌+◌, ◌-◌, ◌<◌, ◌≤◌, Bool, true, false, cond, ◌&&◌, List, [], ◌∷◌, ◌++◌, length, slice_get, Option, Some, None, sym, ap, ◌∙◌, subst, inl, inr, arith, rules, suc, zero, refl}
-use Rattle.std.proofs.lemmas.Bool.Decides.{leb_tells, eqb_tells}
+use Rattle.std.proofs.Common.{◌≡◌, ℕ, ◌+◌, ◌<◌, Bool, true, false, cond, ◌&&◌, List, [], ◌∷◌, ◌++◌, length, Option, Some, None, sym, ap, ◌∙◌, subst, inl, inr, arith, rules, refl}
+use Rattle.std.proofs.lemmas.Bool.Decides.{eqb_tells}
 use Rattle.std.proofs.lemmas.List.Sums.{sum_by-cons}
 use Rattle.std.specs.Prelude.{nat_eq, nat_le, IsSome, if◌then◌else◌, ◌⊎◌}
-use Rattle.std.specs.List.{AllByRecursion, count_by}
+use Rattle.std.specs.List.{AllByRecursion}
 use Rattle.indexmap.specs.IndexMap.{IndexMap, get}
-use Rattle.hr_store.specs.Execution.{ExecState, has_ended, last_job}
-use Rattle.hr_store.specs.Store.{AreOrdered}
+use Rattle.hr_store.specs.Execution.{ExecState, has_ended}
 use Rattle.hr_store.specs.Sweeping.{AsksAndCounts, ended_of, is_dropped, is_ended_of, kept_by}
-use Rattle.hr_store.proofs.StoreLemmas.{weaker}
 
 -- the counts of the policies of these executions are those of the newer ones
 abbrev pub CountOf : {S : Type 0} → IndexMap ℕ ℕ S → List ExecState → ExecState → Type 0
@@ -125,7 +123,7 @@ answer-is : {S : Type 0} (e : ExecState) (newer : List ExecState) (keep : ℕ) (
 answer-is e newer keep old new result c ce =
     let n = some-is c.newer (ended_of e.policy.0 newer) (sym c.were ∙ ce) in
     let G : ℕ → Bool = λ m. has_ended e && nat_le keep m in
-    c.answer ∙ ap G n
+    c.answer_is ∙ ap G n
 
 items-after : (keep : ℕ) (e : ExecState) (newer left rest : List ExecState) (gone : Bool) → gone ≡ is_dropped keep e newer → rest ≡ kept_by keep newer ++ left → (if gone then rest else e ∷ rest) ≡ kept_by keep (e ∷ newer) ++ left
 items-after keep e newer left rest true g r = rw (← g) r

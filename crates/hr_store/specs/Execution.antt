@@ -1,6 +1,6 @@
 -- An execution: one run of a policy, with the rows of its jobs. (After Harbor's replication
 -- executions and tasks.)
-use Rattle.std.specs.Prelude.{◌≡◌, ℕ, ◌+◌, Bool, true, false, ◌||◌, not, cond, if◌then◌else◌, List, length, map, slice_get, slice_set, Option, Some}
+use Rattle.std.specs.Prelude.{◌≡◌, ℕ, ◌+◌, Bool, true, false, ◌||◌, not, cond, if◌then◌else◌, List, length, slice_get, slice_set, Some}
 use Rattle.std.specs.List.{count_by, list_any, list_all}
 use Rattle.hr_base.specs.declared.number.PolicyNo.{PolicyNo}
 use Rattle.hr_base.specs.declared.number.Moment.{Moment}

@@ -1,5 +1,5 @@
 -- What follows from the calls of a store, for whoever states what holds of its jobs. (Our own.)
-use Rattle.std.specs.Prelude.{◌≡◌, ◌≢◌, ◌⊎◌, ◌↔◌, ℕ, ◌<◌, ◌≤◌, Bool, true, false, List, ◌∷◌, ◌++◌, slice_index, Option, Some, None}
+use Rattle.std.specs.Prelude.{◌≡◌, ◌≢◌, ◌⊎◌, ℕ, ◌+◌, ◌<◌, ◌≤◌, Bool, true, false, List, ◌∷◌, ◌++◌, slice_index, Option, Some, None}
 use Rattle.std.specs.List.{Contains}
 use Rattle.std.specs.Option.{option_map}
 use Rattle.hr_base.specs.declared.status.Hook.{Hook}
@@ -7,8 +7,6 @@ use Rattle.hr_base.specs.declared.status.Status.{Status}
 use Rattle.hr_base.specs.declared.status.Mark.TheVariants.{At}
 use Rattle.hr_base.specs.Status.{word_of}
 use Rattle.hr_board.specs.Over.{EndsJob, IsOver}
-use Rattle.hr_board.specs.Past.{Past}
-use Rattle.hr_board.specs.Plain.{IsLawful}
 use Rattle.hr_board.specs.View.{View, Word, place_of}
 use Rattle.hr_store.specs.Row.{RowState, is_over, with_hook}
 use Rattle.hr_store.specs.Execution.{ExecState, has_ended}
@@ -40,15 +38,25 @@ RowStays keep job execs =
 abbrev pub IsUnopenedOrStopped : Word → Type 0
 IsUnopenedOrStopped word = (word ≡ 0) ⊎ (word ≡ 4)
 
--- a job is over by its words, where its row ends it and is the word of its revision, and where none of
--- its words past its attempts was begun
-abbrev pub RowIsOver : List Word → Past → ℕ → ℕ → ℕ → Status → Type 0
-RowIsOver words past job attempts rev status =
-    IsLawful words past → EndsJob attempts (rev, status) → rev ≤ 3 → attempts ≤ 4
+-- a later revision of a job is open only where the one before it is at Error
+abbrev pub OpensInTurn : List Word → ℕ → Type 0
+OpensInTurn words job =
+    (rev : ℕ) → rev < 3 → slice_index words (place_of job (rev + 1)) ≢ 0
+    → slice_index words (place_of job rev) ≡ 5
+
+-- none of a job's revisions past its attempts was begun
+abbrev pub NoneBegunPast : List Word → ℕ → ℕ → Type 0
+NoneBegunPast words job attempts =
+    (rev : ℕ) → attempts ≤ rev → rev ≤ 3
+    → IsUnopenedOrStopped (slice_index words (place_of job rev))
+
+-- a job is over by its words where its row ends it, the word of the row's revision is the row's status,
+-- and the job's other words were opened in turn and not begun past its attempts
+abbrev pub RowIsOver : List Word → ℕ → ℕ → ℕ → Status → Type 0
+RowIsOver words job attempts rev status =
+    OpensInTurn words job → NoneBegunPast words job attempts → 1 ≤ attempts → attempts ≤ 4 → rev ≤ 3
     → slice_index words (place_of job rev) ≡ word_of (At status)
-    → ((later : ℕ) → attempts ≤ later → later ≤ 3
-    → IsUnopenedOrStopped (slice_index words (place_of job later)))
-    → IsOver words job attempts
+    → EndsJob attempts (rev, status) → IsOver words job attempts
 
 -- the hooks that the row of a job received, where it is kept
 abbrev pub hooks_of_job : ℕ → List ExecState → Option (List Hook)

@@ -5,7 +5,6 @@ ghost use Rattle.std.specs.Option.{option_map};
 ghost use Rattle.hr_base.specs.declared.status.Hook.{Hook};
 ghost use Rattle.hr_base.specs.declared.status.Status.{Status};
 ghost use Rattle.hr_board.specs.Over.{EndsJob};
-ghost use Rattle.hr_board.specs.Past.{Past};
 ghost use Rattle.hr_board.specs.View.{View, Word};
 ghost use Rattle.hr_store.specs.Execution.{ExecState};
 ghost use Rattle.hr_store.specs.Laws.{Goes, RowIsOver, RowStays, Stays, TakenIsPut};
@@ -53,6 +52,6 @@ pub fn sweep_drops_rows_that_are_over()
 pub fn row_ends_its_job()
     ensures says { (attempts rev : ℕ) (status : Status)
         → IsTrue (ends_job attempts rev status) ↔ EndsJob attempts (rev, status) }
-    ensures over { (words : List Word) (past : Past) (job attempts rev : ℕ) (status : Status)
-        → RowIsOver words past job attempts rev status }
+    ensures over { (words : List Word) (job attempts rev : ℕ) (status : Status)
+        → RowIsOver words job attempts rev status }
 {}

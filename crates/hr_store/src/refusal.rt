@@ -1,4 +1,5 @@
 //! Why an execution is not made. (Our own.)
+ghost use Rattle.std.specs.Prelude.{◌≡◌};
 
 use hr_base::Memory;
 use std::alloc::AllocError;

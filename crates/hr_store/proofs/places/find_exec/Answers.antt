@@ -1,6 +1,6 @@
-use Rattle.std.proofs.Common.{arith, ℕ, ◌≡◌, ◌<◌, ◌≤◌}
+use Rattle.std.proofs.Common.{arith}
 use Rattle.hr_store.proofs.StoreLemmas.{exec_no}
-use Rattle.hr_store.proofs.StoreLemmas.{all-not-lower, not-lower-from, lower-to, rank-from, NotLower, rising-exec}
+use Rattle.hr_store.proofs.StoreLemmas.{all-not-lower, not-lower-from, lower-to, rank-from, rising-exec}
 use Rattle.hr_store.proofs.places.find_exec.Goals as goal
 
 pub halves-init : goal.halves-init

@@ -1,6 +1,5 @@
-use Rattle.std.proofs.Common.{arith, ℕ, ◌≡◌, ◌<◌, ◌≤◌, ◌+◌, ◌-◌, length, ap}
-use Rattle.hr_store.specs.Execution.{ExecState, last_job}
-use Rattle.hr_store.proofs.StoreLemmas.{place-row, place-past, place-between, stands}
+use Rattle.std.proofs.Common.{arith, ◌-◌}
+use Rattle.hr_store.proofs.StoreLemmas.{place-past, place-between, stands}
 use Rattle.hr_store.proofs.places.find_row.Goals as goal
 
 pub returns-then-at-len : goal.returns-then-at-len

@@ -1,4 +1,4 @@
-use Rattle.std.proofs.Common.{arith, ap, sym, length, ◌≡◌, ◌≤◌, ◌∙◌, ◌++◌, ◌+◌, ◌∷◌, [], List, ℕ, append_assoc}
+use Rattle.std.proofs.Common.{arith, ap, sym, length, ◌≡◌, ◌∙◌, ◌++◌, ◌+◌, ◌∷◌, [], List, ℕ, append_assoc}
 use Rattle.hr_store.specs.Row.{RowState}
 use Rattle.hr_event.specs.declared.task.TaskSpec.{TaskSpec}
 use Rattle.hr_store.proofs.StoreLemmas.{left-over, new_rows-push, length-snoc}

@@ -1,7 +1,4 @@
-use Rattle.std.proofs.Common.{arith, ◌≡◌, ◌<◌, ◌∙◌, ◌∷◌, List, length, sym, ap}
-use Rattle.std.proofs.Common.{Global}
-use Rattle.std.specs.declared.collections.VecDeque.{VecDeque}
-use Rattle.hr_store.specs.Execution.{ExecState}
+use Rattle.std.proofs.Common.{arith, ◌<◌, length}
 use Rattle.hr_store.proofs.SweepLemmas.{sweep-gone, sweep-kept}
 use Rattle.hr_store.proofs.sweeping.drop_ended.Goals as goal
 use Rattle.hr_store.proofs.sweeping.drop_ended.Goals.{then-not-is_dropped, else-not-is_dropped}

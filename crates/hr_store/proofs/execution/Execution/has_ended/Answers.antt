@@ -1,4 +1,4 @@
-use Rattle.std.proofs.Common.{arith, ◌≡◌, rules, ap, ◌∙◌, sym, false, ℕ, Bool, ◌||◌, length}
+use Rattle.std.proofs.Common.{arith, ◌≡◌, ap, ◌∙◌, sym, ℕ, Bool, ◌||◌, length}
 use Rattle.std.specs.Prelude.{nat_eq}
 use Rattle.std.specs.List.{count_by, list_all}
 use Rattle.hr_store.specs.Execution.{ExecState, has_ended}

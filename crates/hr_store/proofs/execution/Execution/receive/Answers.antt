@@ -1,4 +1,4 @@
-use Rattle.std.proofs.Common.{arith, rules, sym, ap, subst, refl, ℕ, List, set, length, length-set, ◌<◌}
+use Rattle.std.proofs.Common.{arith, sym, ap, subst, refl, List, set, length, length-set, ◌<◌}
 use Rattle.hr_store.specs.Execution.{ExecState, is_error, is_stopped, is_success, one_if}
 use Rattle.hr_store.specs.Row.{RowState, is_over, row_status}
 use Rattle.hr_store.proofs.RowLemmas.{count-length, count-set, heard-count, get-at}

@@ -1,4 +1,4 @@
-use Rattle.std.proofs.Common.{arith, ap, ℕ, ◌≡◌}
+use Rattle.std.proofs.Common.{arith, ap, ℕ}
 use Rattle.hr_store.specs.Execution.{ExecState, is_unfinished, rows_at}
 use Rattle.hr_store.proofs.RowLemmas.{status-open, status-failed, status-stopped, status-succeed}
 use Rattle.hr_store.proofs.execution.Execution.status.Goals as goal

@@ -1,4 +1,4 @@
-use Rattle.std.proofs.Common.{arith, rules, sym, ◌≡◌, subst, false, ℕ}
+use Rattle.std.proofs.Common.{arith, rules, sym, ◌≡◌, subst, false}
 use Rattle.hr_store.specs.Row.{RowState, is_among}
 use Rattle.hr_store.proofs.RowLemmas.{once-push, rises, room-for}
 use Rattle.hr_store.proofs.row.Row.receive.Goals as goal

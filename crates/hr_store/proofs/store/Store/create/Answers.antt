@@ -1,4 +1,4 @@
-use Rattle.std.proofs.Common.{arith, ap, sym, length, ◌≡◌, ◌≤◌, ◌∙◌, [], ◌++◌, ◌+◌, ◌∷◌, subst, List, ℕ, Bool}
+use Rattle.std.proofs.Common.{arith, ap, sym, length, ◌≡◌, ◌∙◌, [], ◌++◌, ◌+◌, ◌∷◌, subst, List, ℕ, Bool}
 use Rattle.std.specs.List.{AllByRecursion}
 use Rattle.std.specs.Prelude.{nat_eq, IsSome}
 use Rattle.indexmap.specs.IndexMap.{get}

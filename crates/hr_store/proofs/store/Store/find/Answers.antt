@@ -1,4 +1,4 @@
-use Rattle.std.proofs.Common.{arith, ◌≡◌, ◌∙◌, sym, ap, Some, None, Option, List, ℕ}
+use Rattle.std.proofs.Common.{arith, ◌∙◌, sym, ap, ℕ}
 use Rattle.hr_store.specs.Execution.{ExecState}
 use Rattle.hr_store.proofs.StoreLemmas.{exec-at, exec-none, one-at, exec_no}
 use Rattle.hr_store.proofs.store.Store.find.Goals as goal
@@ -7,9 +7,9 @@ use Rattle.hr_store.proofs.store.Store.find.Goals.{else-place-len-via-then-place
 pub returns-then-exec : goal.returns-then-exec
 returns-then-exec c =
     rw (← c.self.view_is) (record {
-      found = c.index.result.now;
+      exec = c.index.result.now;
       within = omega arith;
-      found_is = c.index.ensures;
+      exec_is = c.index.ensures;
       there = exec-at 0 0 c.args.exec.0 c.find_exec-place.result c.index.result.now c.self.inside.kept.items c.self.invariant.ordered c.find_exec-place.ensures (omega arith) c.index.ensures (sym c.exec.ensures ∙ c.if-exec.true);
     })
 

@@ -1,6 +1,6 @@
 use Rattle.std.proofs.Common.{subst, ◌≤◌}
 use Rattle.std.specs.List.{AllByRecursion}
-use Rattle.hr_store.specs.Store.{AreMade, AreOrdered, FailsBare}
+use Rattle.hr_store.specs.Store.{StoreState, AreMade, AreOrdered, FailsBare}
 use Rattle.hr_store.proofs.store.Store.is_sound.Goals as goal
 
 pub returns-clause-ordered : goal.returns-clause-ordered

@@ -1,6 +1,6 @@
 use Rattle.std.proofs.Common.{arith, ◌≡◌, ◌∙◌, sym, ap, set, subst, List, [], Some, ℕ}
 use Rattle.hr_store.specs.Execution.{ExecState}
-use Rattle.hr_store.specs.Store.{IsSound, exec_numbered, execs_failing}
+use Rattle.hr_store.specs.Store.{StoreState, IsSound, exec_numbered, execs_failing}
 use Rattle.hr_store.proofs.StoreLemmas.{fail-at, fail-none, one-at, sound-failed, exec_no}
 use Rattle.hr_store.proofs.store.Store.mark_failed.Goals as goal
 use Rattle.hr_store.proofs.store.Store.mark_failed.Goals.{else-place-len-via-then-place-len+else-exec, else-place-len-via-else-place-len}

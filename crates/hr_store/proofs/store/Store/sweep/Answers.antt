@@ -1,7 +1,6 @@
-use Rattle.std.proofs.Common.{arith, ap, sym, length, ◌≡◌, ◌≤◌, ◌∙◌, subst, List, ℕ}
+use Rattle.std.proofs.Common.{arith, ap, sym, length, subst, List, ℕ}
 use Rattle.hr_store.specs.Execution.{ExecState}
-use Rattle.hr_store.specs.Store.{IsSound}
-use Rattle.hr_store.specs.Sweeping.{kept_by}
+use Rattle.hr_store.specs.Store.{StoreState, IsSound}
 use Rattle.hr_store.proofs.StoreLemmas.{length-kept, length-made, sound-swept}
 use Rattle.hr_store.proofs.store.Store.sweep.Goals as goal
 
@@ -28,4 +27,4 @@ returns c =
     let L : List ExecState → ℕ = length in
     let k = ap L c.drop_ended.ensures.kept in
     let l = length-kept c.args.keep c.self.inside.kept.items in
-    rw (← c.self.view_is) (record { after = ap V c.drop_ended.ensures.kept; count = omega (arith, k, l, c.len.ensures, c.len-before.ensures) })
+    rw (← c.self.view_is) (record { after_is = ap V c.drop_ended.ensures.kept; count_is = omega (arith, k, l, c.len.ensures, c.len-before.ensures) })
