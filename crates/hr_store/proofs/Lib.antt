@@ -1,3 +1,4 @@
+mod KeptLemmas
 mod LawLemmas
 mod RowLemmas
 mod StoreLemmas

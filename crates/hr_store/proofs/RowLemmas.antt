@@ -122,7 +122,7 @@ number-new job (x ∷ hs) h a j e =
       | inr q ↦ (let z = ap one_if q.0 in omega (arith, c, r, z))
     ]
 
-all-push : {X : Type 0} (P : X → Type 0) (xs : List X) (x : X) → AllByRecursion P xs → P x → AllByRecursion P (xs ++ x ∷ [])
+pub all-push : {X : Type 0} (P : X → Type 0) (xs : List X) (x : X) → AllByRecursion P xs → P x → AllByRecursion P (xs ++ x ∷ [])
 all-push P [] x a h = (h, tt)
 all-push P (y ∷ ys) x a h = (a.0, all-push P ys x a.1 h)
 

@@ -5,6 +5,7 @@ use Rattle.std.specs.Prelude.{nat_eq, if◌then◌else◌, IsSome}
 use Rattle.indexmap.specs.IndexMap.{IndexMap, get}
 use Rattle.hr_store.specs.Creating.{new_rows}
 use Rattle.hr_store.specs.Execution.{ExecState, RowReceives, last_job}
+use Rattle.hr_store.specs.Kept.{ExecReceives}
 use Rattle.hr_store.specs.Places.{RowStands, rank_by}
 use Rattle.hr_store.specs.Receiving.{FindsWord, ReceivesHook, TakesHook}
 use Rattle.hr_store.specs.Row.{RowState, row_with}
@@ -350,7 +351,7 @@ counted-push counts [] e a h = (h, tt)
 counted-push counts (u ∷ us) e a h = (a.0, counted-push counts us e a.1 h)
 
 -- a failed plan
-fail-above : (a b exec : ℕ) (es : List ExecState) → AreOrdered a b es → exec ≤ a → execs_failing exec es ≡ es
+pub fail-above : (a b exec : ℕ) (es : List ExecState) → AreOrdered a b es → exec ≤ a → execs_failing exec es ≡ es
 fail-above a b exec [] o l = refl
 fail-above a b exec (e ∷ es) o l = elim (eqb_tells e.exec exec) [
   | inl q ↦ absurd (omega (arith, q.1, o.0, l))
@@ -434,7 +435,18 @@ bare-failed a b exec (e ∷ es) o s f = elim (eqb_tells e.exec exec) [
   | inr q ↦ (rw q.0 s.0, bare-failed e.exec (last_job e) exec es o.3 s.1 (λ v k. f v (rw q.0 k)))
 ]
 
+-- no execution has a number that was not made
+pub unmade : (made jobs number : ℕ) (es : List ExecState) → AreMade made jobs es → made < number → exec_numbered number es ≡ None
+unmade made jobs number [] m l = refl
+unmade made jobs number (e ∷ es) m l = elim (eqb_tells e.exec number) [
+  | inl q ↦ absurd (omega (arith, q.1, m.0.0, l))
+  | inr q ↦ rw q.0 (unmade made jobs number es m.1 l)
+]
+
 -- what a store keeps to, after each call
+pub sound-counted : {S : Type 0} (limit jobs made : ℕ) (es : List ExecState) (counts after : IndexMap ℕ ℕ S) → IsSound limit jobs made es counts → ((p : ℕ) → IsSome (get nat_eq counts p) → IsSome (get nat_eq after p)) → IsSound limit jobs made es after
+sound-counted limit jobs made es counts after s f = record { no_rows = s.no_rows; few = s.few; numbers = s.numbers; within = s.within; ordered = s.ordered; were_made = s.were_made; countable = some-more counts after es f s.countable }
+
 pub sound-failed : {S : Type 0} (limit jobs made exec : ℕ) (es : List ExecState) (counts : IndexMap ℕ ℕ S) → IsSound limit jobs made es counts → ((e : ExecState) → exec_numbered exec es ≡ Some e → e.rows ≡ []) → IsSound limit jobs made (execs_failing exec es) counts
 sound-failed limit jobs made exec es counts s f = record { no_rows = bare-failed 0 0 exec es s.ordered s.no_rows f; few = s.few; numbers = s.numbers; within = s.within; ordered = failed-ordered 0 0 exec es s.ordered; were_made = failed-made made jobs exec es s.were_made; countable = failed-counted counts exec es s.countable }
 
@@ -484,7 +496,7 @@ abbrev some_or : {X : Type 0} → X → Option X → X
 some_or d None = d
 some_or d (Some x) = x
 
-get-back : {X : Type 0} (xs : List X) (i : ℕ) (x : X) → slice_get xs i ≡ Some x → x ≡ get_or xs i x
+pub get-back : {X : Type 0} (xs : List X) (i : ℕ) (x : X) → slice_get xs i ≡ Some x → x ≡ get_or xs i x
 get-back [] zero x e = absurd (cc)
 get-back [] (suc i) x e = absurd (cc)
 get-back {X = X} (y ∷ ys) zero x e = let F : Option X → X = λ o. some_or x o in sym (ap F e)
@@ -519,22 +531,38 @@ numbered-at a b zero e (u ∷ us) o l q = let N : ExecState → Type 0 = λ v. A
 numbered-at a b (suc i) e (u ∷ us) o l q = numbered-at u.exec (last_job u) i e us o.3 (omega (arith, l)) q
 
 -- the row at the place of a job is that of the job
-pub right-job : (kept : List ExecState) (h : Hook) (at place : ℕ) (e : ExecState) (r : RowState) → AreOrdered 0 0 kept → RowStands kept h.job.0 at place → e ≡ get_or kept at e
+pub right-job : (kept : List ExecState) (h : Hook) (at place : ℕ) (e : ExecState) (r : RowState) → AreOrdered 0 0 kept → RowStands kept h.job.0 at place → slice_get kept at ≡ Some e
     → slice_get e.rows place ≡ Some r → h.job.0 ≡ r.job
-right-job kept h at place e r o s q g =
+right-job kept h at place e r o s there g =
+    let q = get-back kept at e there in
     let same = one-at kept at e s.exec s.within q s.exec_is in
     let B : ExecState → ℕ = λ v. v.before in
     let bef = ap B same in
     let j = job-at e.before place r e.rows (numbered-at 0 0 at e kept o s.within q) g in
     omega (arith, bef, j, s.job_is)
 
-pub heard-hook : (limit jobs made : ℕ) (kept : List ExecState) (b c : board.View) (h : Hook) (mark : Mark) (at place : ℕ) (e new : ExecState) (raised : Bool) → AreOrdered 0 0 kept → RowStands kept h.job.0 at place → e ≡ get_or kept at e
-    → RowReceives e.rows place h raised new.rows → new ≡ record e { rows = new.rows } → FindsWord b h mark c → Covers mark h.status
-    → TakesHook (record { limit = limit; jobs = jobs; made = made; kept = kept }) b h raised (record { limit = limit; jobs = jobs; made = made; kept = set kept at new }) c
-heard-hook limit jobs made kept b c h mark at place e new raised o s q r n l w =
-    let k = stands-heard kept h at place e new raised o s q r n in
+-- the same where the execution stands in a map
+pub taken : (kept after : List ExecState) (h : Hook) (at place : ℕ) (raised : Bool) → AreOrdered 0 0 kept → RowStands kept h.job.0 at place → (x : ExecReceives kept at place h raised after)
+    → (row_of_job h.job.0 kept ≡ Some x.receives.row) × (after ≡ execs_hearing h kept)
+taken kept after h at place raised o s x =
+    let k = stands-heard kept h at place x.exec x.new raised o s (get-back kept at x.exec x.there) x.receives x.same in
+    (k.0, x.set ∙ k.1)
+
+pub heard-hook : (limit jobs made : ℕ) (kept after : List ExecState) (b c : board.View) (h : Hook) (mark : Mark) (at place : ℕ) (raised : Bool) → AreOrdered 0 0 kept → RowStands kept h.job.0 at place
+    → ExecReceives kept at place h raised after → FindsWord b h mark c → Covers mark h.status
+    → TakesHook (record { limit = limit; jobs = jobs; made = made; kept = kept }) b h raised (record { limit = limit; jobs = jobs; made = made; kept = after }) c
+heard-hook limit jobs made kept after b c h mark at place raised o s x l w =
+    let k = taken kept after h at place raised o s x in
     let V : List ExecState → StoreState = λ ks. record { limit = limit; jobs = jobs; made = made; kept = ks } in
-    record { row = r.row; there = k.0; mark = mark; found = l; covered = w; after_is = ap V k.1; rose = r.rose }
+    record { row = x.receives.row; there = k.0; mark = mark; found = l; covered = w; after_is = ap V k.1; rose = x.receives.rose }
+
+-- the execution at the place of a job has its row
+pub right-place : (kept : List ExecState) (h : Hook) (at place : ℕ) (e : ExecState) → RowStands kept h.job.0 at place → slice_get kept at ≡ Some e → place < length e.rows
+right-place kept h at place e s g =
+    let same = one-at kept at e s.exec s.within (get-back kept at e g) s.exec_is in
+    let L : ExecState → ℕ = λ v. length v.rows in
+    let len = ap L same in
+    omega (arith, len, s.row_within)
 
 pub receives-raised : (s r : StoreState) (b c : board.View) (h : Hook) (raised : Bool) (answer : Received) → raised ≡ true → answer ≡ received.Raised → TakesHook s b h raised r c → ReceivesHook s b h answer r c
 receives-raised s r b c h raised answer t a k =

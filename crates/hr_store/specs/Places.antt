@@ -1,8 +1,8 @@
--- Where executions and rows stand in a store: numbers rise, so that a binary search finds them. (Our own.)
+-- Where the row of a job stands in a store: job numbers rise, so that a binary search finds it. (Our own.)
 use Rattle.std.specs.Prelude.{◌≡◌, ℕ, suc, ◌+◌, ◌<◌, nat_lt, if◌then◌else◌, List, [], ◌∷◌, length, get_or, Option, Some, None}
 use Rattle.hr_store.specs.Row.{RowState}
 use Rattle.hr_store.specs.Execution.{ExecState, last_job}
-use Rattle.hr_store.specs.Store.{exec_numbered, row_of_job}
+use Rattle.hr_store.specs.Store.{row_of_job}
 
 -- how many at the front have a lower number
 abbrev pub rank_by : {X : Type 0} → (X → ℕ) → ℕ → List X → ℕ
@@ -25,10 +25,3 @@ pub record RowStands (kept : List ExecState) (job at place : ℕ) : Type 0 where
 abbrev pub FindsRow : List ExecState → ℕ → Option (ℕ × ℕ) → Type 0
 FindsRow kept job None = row_of_job job kept ≡ None
 FindsRow kept job (Some places) = RowStands kept job places.0 places.1
-
--- the execution of a number stands at this place
-pub record ExecStands (kept : List ExecState) (number place : ℕ) : Type 0 where
-  pub exec : ExecState
-  pub within : place < length kept
-  pub exec_is : exec ≡ get_or kept place exec
-  pub there : exec_numbered number kept ≡ Some exec

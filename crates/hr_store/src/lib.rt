@@ -3,6 +3,8 @@
 #![tactic(auto)]
 
 mod execution;
+mod held;
+mod kept;
 mod laws;
 mod places;
 mod refusal;

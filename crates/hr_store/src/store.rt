@@ -1,28 +1,26 @@
 //! The store: executions with the rows of their jobs, in order of creation. (Our own.)
 ghost use Rattle.std.specs.Prelude.{◌≡◌, ◌+◌, ◌-◌, ◌^◌, ◌<◌, ◌≤◌, [], length, IfOk, Option, Some, None, MatchOption, IsSome, List, map};
-ghost use Rattle.std.specs.VecDeque.{deque_len};
 ghost use Rattle.std.specs.Option.{option_map, option_copied};
 ghost use Rattle.std.specs.List.{AllByRecursion};
 ghost use Rattle.hr_base.specs.Merge.{joined};
 ghost use Rattle.hr_board.specs.View.{Keeps};
 ghost use Rattle.hr_store.specs.Creating.{CreatesExec, new_rows};
 ghost use Rattle.hr_store.specs.Execution.{ExecState, exec_view};
-ghost use Rattle.hr_store.specs.Places.{ExecStands};
 ghost use Rattle.hr_store.specs.Receiving.{ReceivesHook};
 ghost use Rattle.hr_store.specs.Store.{AreMade, AreOrdered, FailsBare, exec_numbered, execs_failing, hooks_in, row_of_job, tasks_in};
 ghost use Rattle.hr_store.specs.Sweeping.{SweepsEnded};
 
 use crate::CreateRefused;
 use crate::execution::Execution;
-use crate::places::{find_exec, find_row};
+use crate::kept::Kept;
+use crate::places::find_row;
 use crate::row::Row;
-use crate::sweeping::{admit, drop_ended};
+use crate::sweeping::admit;
 use hr_base::{ExecNo, Hook, JobNo, List, Memory, Moment, PolicyNo, Status};
 use hr_board::Board;
 use hr_event::{ExecView, Received, RowView, TaskSpec, Trigger};
 use indexmap::IndexMap;
 use std::alloc::Global;
-use std::collections::VecDeque;
 use std::marker::Model;
 
 /// Executions and their rows. A row says what is known of a job: the join of the hooks that the
@@ -32,7 +30,7 @@ pub struct Store {
     limit: u32,
     jobs: u32,
     made: u32,
-    kept: VecDeque<Execution>,
+    kept: Kept,
     counts: IndexMap<u32, u64>,
 }
 
@@ -45,10 +43,10 @@ impl Model for Store {
       limit = s.limit;
       jobs = s.jobs;
       made = s.made;
-      kept = s.kept.items;
+      kept = s.kept;
     } };
 
-    ghost invariant = { λ s. IsSound s.limit s.jobs s.made s.kept.items s.counts };
+    ghost invariant = { λ s. IsSound s.limit s.jobs s.made s.kept s.counts };
 }
 
 impl Store {
@@ -62,7 +60,7 @@ impl Store {
             limit: jobs,
             jobs: 0,
             made: 0,
-            kept: VecDeque::new(alloc),
+            kept: Kept::new(alloc),
             counts: IndexMap::new(alloc),
         }
     }
@@ -85,12 +83,11 @@ impl Store {
         if count > (self.limit - self.jobs) as usize || self.made == u32::MAX {
             return Err(CreateRefused::Full { jobs: self.limit });
         }
-        self.kept.reserve(1)?;
         admit(&mut self.counts, policy.0)?;
         let rows = new_rows(alloc, specs, self.jobs)?;
         let exec = ExecNo(self.made + 1);
         let execution = Execution::new(exec, policy, trigger, now, self.jobs, rows);
-        self.kept.push_back_reserved(execution);
+        self.kept.push(execution)?;
         self.jobs += count as u32;
         self.made += 1;
         Ok(exec)
@@ -102,10 +99,7 @@ impl Store {
         requires { (e : ExecState) → exec_numbered exec.0 self.old.kept ≡ Some e → e.rows ≡ [] }
         ensures { self.new ≡ record self.old { kept = execs_failing exec.0 self.old.kept } }
     {
-        let place = find_exec(&self.kept, exec.0);
-        if place < self.kept.len() && self.kept[place].exec() == exec.0 {
-            self.kept[place].fail();
-        }
+        self.kept.fail(exec.0);
     }
 
     /// Receives a hook, of a revision from 0 to 3, which counts only where the word of its revision
@@ -128,7 +122,7 @@ impl Store {
         if !mark.covers(hook.status) {
             return Received::Unconfirmed(mark);
         }
-        if self.kept[at].receive(place, hook) {
+        if self.kept.receive(at, place, hook) {
             Received::Raised
         } else {
             Received::Known
@@ -141,7 +135,7 @@ impl Store {
         ensures { SweepsEnded self.old keep result self.new }
     {
         let before = self.kept.len();
-        drop_ended(&mut self.kept, &mut self.counts, keep);
+        self.kept.sweep(&mut self.counts, keep);
         (before - self.kept.len()) as u32
     }
 
@@ -149,8 +143,8 @@ impl Store {
     pub fn exec(&self, exec: ExecNo) -> Option<ExecView>
         ensures { result ≡ option_map exec_view (exec_numbered exec.0 self.now.kept) }
     {
-        let place = self.find(exec)?;
-        Some(self.kept[place].view())
+        let execution = self.kept.numbered(exec.0)?;
+        Some(execution.view())
     }
 
     /// The executions that are kept, in order of creation.
@@ -159,7 +153,7 @@ impl Store {
     {
         let mut all = List::new(alloc);
         for i in 0..self.kept.len() {
-            all.push(self.kept[i].view())?;
+            all.push(self.kept.at(i).view())?;
         }
         Ok(all)
     }
@@ -168,8 +162,8 @@ impl Store {
     pub fn tasks(&self, alloc: Global, exec: ExecNo) -> Result<List<RowView>, Memory>
         ensures { IfOk result (λ all. all ≡ tasks_in (exec_numbered exec.0 self.now.kept)) }
     {
-        match self.find(exec) {
-            Some(place) => self.kept[place].tasks(alloc),
+        match self.kept.numbered(exec.0) {
+            Some(execution) => execution.tasks(alloc),
             None => Ok(List::new(alloc)),
         }
     }
@@ -180,7 +174,7 @@ impl Store {
             ≡ option_map (λ row. joined row.received) (row_of_job job.0 self.now.kept) }
     {
         let (at, place) = find_row(&self.kept, job.0)?;
-        Some(self.kept[at].rows()[place].known())
+        Some(self.kept.at(at).rows()[place].known())
     }
 
     /// What a job copies; `None` where its row is not kept.
@@ -189,7 +183,7 @@ impl Store {
             ≡ option_map (λ row. row.spec) (row_of_job job.0 self.now.kept) }
     {
         match find_row(&self.kept, job.0) {
-            Some((at, place)) => Some(self.kept[at].rows()[place].spec()),
+            Some((at, place)) => Some(self.kept.at(at).rows()[place].spec()),
             None => None,
         }
     }
@@ -199,7 +193,7 @@ impl Store {
         ensures { result.now ≡ hooks_in (row_of_job job.0 self.now.kept) }
     {
         match find_row(&self.kept, job.0) {
-            Some((at, place)) => self.kept[at].rows()[place].received(),
+            Some((at, place)) => self.kept.at(at).rows()[place].received(),
             None => &[],
         }
     }
@@ -212,18 +206,6 @@ impl Store {
         ensures within { self.now.jobs ≤ self.now.limit }
     {
         let _jobs = self.jobs;
-    }
-
-    // The place of an execution; `None` where it is not kept.
-    fn find(&self, exec: ExecNo) -> Option<usize>
-        ensures { MatchOption result (exec_numbered exec.0 self.now.kept ≡ None)
-            (λ place. ExecStands self.now.kept exec.0 place) }
-    {
-        let place = find_exec(&self.kept, exec.0);
-        if place < self.kept.len() && self.kept[place].exec() == exec.0 {
-            return Some(place);
-        }
-        None
     }
 }
 

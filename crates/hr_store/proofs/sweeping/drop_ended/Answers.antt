@@ -1,14 +1,21 @@
-use Rattle.std.proofs.Common.{arith, ◌<◌, length}
-use Rattle.hr_store.proofs.SweepLemmas.{sweep-gone, sweep-kept}
+use Rattle.std.proofs.Common.{ℕ, List, ap, ◌∙◌, rules, subst, sym}
+use Rattle.indexmap.proofs.CallerLemmas.{filter-RetainsPairs}
+use Rattle.hr_store.specs.Execution.{ExecState}
+use Rattle.hr_store.specs.Kept.{AreKeyed, execs_in}
+use Rattle.hr_store.specs.Sweeping.{kept_by}
+use Rattle.hr_store.specs.declared.held.Held.{Held}
+use Rattle.hr_store.proofs.SweepLemmas.{unmarked-kept, unmarked-keyed}
 use Rattle.hr_store.proofs.sweeping.drop_ended.Goals as goal
-use Rattle.hr_store.proofs.sweeping.drop_ended.Goals.{then-not-is_dropped, else-not-is_dropped}
 
-pub newest-preserved : goal.newest-preserved
-newest-preserved c =
-    let within : c.newest._i < length c.args.kept.now.items = omega arith in
-    elim c.if-not-is_dropped.branch [
-      | then-not-is_dropped w ↦ sweep-kept c.args.keep c.args.kept.now.items _ c.pop_back.new.self.items c.if-not-is_dropped.kept.items c.in-Some.execution c.args.counts.now c.newest.counts c.is_dropped.new.counts
-          c.newest._i c.is_dropped.result c.newest.invariant within c.in-Some.ensures.items c.is_dropped.ensures w.if-not-is_dropped.true (rw w.kept-is w.push_front_reserved.ensures.items)
-      | else-not-is_dropped w ↦ rw w.kept-is (sweep-gone c.args.keep c.args.kept.now.items _ c.pop_back.new.self.items c.in-Some.execution c.args.counts.now c.newest.counts c.is_dropped.new.counts
-          c.newest._i c.is_dropped.result c.newest.invariant within c.in-Some.ensures.items c.is_dropped.ensures w.if-not-is_dropped.false)
-    ]
+pub returns-clause-kept : goal.returns-clause-kept
+returns-clause-kept c =
+    let left = filter-RetainsPairs _ _ _ (λ k v b w g call. search rules) _ _ c.retain.ensures.filtered in
+    let E : List (ℕ × Held) → List ExecState = λ es. execs_in es in
+    let K : List ExecState → List ExecState = λ es. kept_by c.args.keep es in
+    ap E left ∙ (unmarked-kept c.args.keep c.mark.new.entries.entries c.mark.ensures.marked.marked ∙ ap K c.mark.ensures.marked.same)
+
+pub returns-clause-keyed : goal.returns-clause-keyed
+returns-clause-keyed c =
+    let left = filter-RetainsPairs _ _ _ (λ k v b w g call. search rules) _ _ c.retain.ensures.filtered in
+    let P : List (ℕ × Held) → Type 0 = λ es. AreKeyed es in
+    subst P (sym left) (unmarked-keyed c.mark.new.entries.entries (c.mark.ensures.marked.keyed c.requires.keyed))
