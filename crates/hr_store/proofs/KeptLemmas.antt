@@ -10,7 +10,7 @@ use Rattle.hr_store.specs.Kept.{AreKeyed, execs_in}
 use Rattle.hr_store.specs.Store.{AreOrdered, exec_numbered, execs_failing}
 use Rattle.hr_store.specs.declared.held.Held.{Held}
 use Rattle.hr_store.proofs.RowLemmas.{all-push}
-use Rattle.hr_store.proofs.StoreLemmas.{fail-above}
+use Rattle.hr_store.proofs.SoundLemmas.{fail-above}
 
 abbrev pub exec_in : Held → ExecState
 exec_in held = held.execution

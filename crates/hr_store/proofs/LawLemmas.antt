@@ -20,7 +20,9 @@ use Rattle.hr_store.specs.Store.{AreNumbered, AreOrdered, FailsBare, StoreState,
 use Rattle.hr_store.specs.Sweeping.{ended_of, is_dropped, is_ended_of, kept_by}
 use Rattle.hr_store.specs.Laws.{IsUnopenedOrStopped, OpensInTurn, RowIsOver, RowStays, Stays, TakenIsPut, hooks_of_job}
 use Rattle.hr_store.proofs.RowLemmas.{same-from}
-use Rattle.hr_store.proofs.StoreLemmas.{exec-low, of-low, ordered-kept, row-high}
+use Rattle.hr_store.proofs.OrderLemmas.{exec-low}
+use Rattle.hr_store.proofs.PlaceLemmas.{of-low, row-high}
+use Rattle.hr_store.proofs.SoundLemmas.{ordered-kept}
 
 in-heard : (h : Hook) (job : ℕ) (rs : List RowState) → row_among job (map (row_hearing h) rs) ≡ option_map (row_hearing h) (row_among job rs)
 in-heard h job [] = refl
@@ -106,9 +108,6 @@ ended-less keep p (e ∷ es) =
 
 eq-true : (a b : ℕ) → nat_eq a b ≡ true → a ≡ b
 eq-true a b e = elim (eqb_tells a b) [ inl q ↦ q.1 | inr q ↦ absurd (let f : true ≡ false = sym e ∙ q.0 in cc) ]
-
-one-or-none : Bool → ℕ
-one-or-none b = cond b 1 0
 
 pub few-kept : (keep policy : ℕ) (es : List ExecState) → ended_of policy (kept_by keep es) ≤ keep
 few-kept keep p [] = omega arith

@@ -64,12 +64,6 @@ count-after true false m n k was now w e s q = let t : m ≡ k = omega (arith, q
 count-after false true m n k was now w e s q = let t : m ≡ k = omega (arith, q) in e ∙ (w ∙ ap Some t)
 count-after false false m n k was now w e s q = let t : m ≡ k = omega (arith, q) in e ∙ (w ∙ ap Some t)
 
-eq-sym : (a b : ℕ) → nat_eq a b ≡ nat_eq b a
-eq-sym a b = elim (eqb_tells a b) [
-  | inl q ↦ elim (eqb_tells b a) [ inl r ↦ q.0 ∙ sym r.0 | inr r ↦ absurd (r.1 (sym q.1)) ]
-  | inr q ↦ elim (eqb_tells b a) [ inl r ↦ absurd (q.1 (sym r.1)) | inr r ↦ q.0 ∙ sym r.0 ]
-]
-
 eq-true : (a b : ℕ) → nat_eq a b ≡ true → a ≡ b
 eq-true a b e = elim (eqb_tells a b) [ inl q ↦ q.1 | inr q ↦ absurd (let f : true ≡ false = sym e ∙ q.0 in cc) ]
 

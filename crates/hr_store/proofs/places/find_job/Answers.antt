@@ -1,6 +1,8 @@
 use Rattle.std.proofs.Common.{arith, ℕ, ◌+◌, ◌-◌, ◌/◌}
 use Rattle.hr_store.specs.Execution.{last_job}
-use Rattle.hr_store.proofs.StoreLemmas.{all-not-lower, get-back, lower-to, not-lower-from, rank-from, rising-last}
+use Rattle.hr_store.proofs.ListLemmas.{get-back}
+use Rattle.hr_store.proofs.OrderLemmas.{rising-last}
+use Rattle.hr_store.proofs.RankLemmas.{all-not-lower, lower-to, not-lower-from, rank-from}
 use Rattle.hr_store.proofs.places.find_job.Goals as goal
 
 pub halves-init : goal.halves-init

@@ -1,5 +1,5 @@
 use Rattle.std.proofs.Common.{◌≤◌, ◌-◌, length}
-use Rattle.hr_store.proofs.StoreLemmas.{Lower, NotLower}
+use Rattle.hr_store.proofs.RankLemmas.{Lower, NotLower}
 use Rattle.hr_store.specs.Execution.{last_job}
 use Rattle.hr_store.proofs.places.find_job.Given as goal
 

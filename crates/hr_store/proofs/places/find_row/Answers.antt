@@ -1,5 +1,6 @@
 use Rattle.std.proofs.Common.{arith, ◌-◌}
-use Rattle.hr_store.proofs.StoreLemmas.{get-back, place-between, place-past, stands}
+use Rattle.hr_store.proofs.ListLemmas.{get-back}
+use Rattle.hr_store.proofs.PlaceLemmas.{place-between, place-past, stands}
 use Rattle.hr_store.proofs.places.find_row.Goals as goal
 
 pub returns-then-at-len : goal.returns-then-at-len

@@ -1,7 +1,8 @@
 use Rattle.std.proofs.Common.{arith, ap, sym, length, ◌≡◌, ◌∙◌, ◌++◌, ◌+◌, ◌∷◌, [], List, ℕ, append_assoc}
 use Rattle.hr_store.specs.Row.{RowState}
 use Rattle.hr_event.specs.declared.task.TaskSpec.{TaskSpec}
-use Rattle.hr_store.proofs.StoreLemmas.{left-over, new_rows-push, length-snoc}
+use Rattle.hr_store.proofs.ListLemmas.{left-over, length-snoc}
+use Rattle.hr_store.proofs.OrderLemmas.{new_rows-push}
 use Rattle.hr_store.proofs.store.new_rows.Goals as goal
 
 pub overflow_add-job : goal.overflow_add-job

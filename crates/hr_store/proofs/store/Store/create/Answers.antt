@@ -6,7 +6,8 @@ use Rattle.hr_store.specs.Creating.{new_rows}
 use Rattle.hr_store.specs.Execution.{ExecState}
 use Rattle.hr_store.specs.Row.{RowState}
 use Rattle.hr_store.specs.Store.{AreNumbered, IsSound}
-use Rattle.hr_store.proofs.StoreLemmas.{length-new_rows, new_rows-new, numbered-new_rows, sound-counted, sound-made, unmade}
+use Rattle.hr_store.proofs.OrderLemmas.{length-new_rows, new_rows-new, numbered-new_rows, unmade}
+use Rattle.hr_store.proofs.SoundLemmas.{sound-counted, sound-made}
 use Rattle.hr_store.proofs.store.Store.create.Goals as goal
 
 pub new-execution-requires-clause-few : goal.new-execution-requires-clause-few

@@ -2,7 +2,7 @@ use Rattle.std.proofs.Common.{◌≡◌, ◌∙◌, ◌+◌, sym, ap, subst, Lis
 use Rattle.hr_event.specs.declared.view.ExecView.{ExecView}
 use Rattle.hr_store.specs.Execution.{ExecState, exec_view}
 use Rattle.hr_store.specs.Store.{StoreState}
-use Rattle.hr_store.proofs.StoreLemmas.{get-back, map-taken}
+use Rattle.hr_store.proofs.ListLemmas.{get-back, map-taken}
 use Rattle.hr_store.proofs.store.Store.executions.Goals as goal
 
 pub loop-i-preserved : goal.loop-i-preserved

@@ -1,7 +1,7 @@
 use Rattle.std.proofs.Common.{◌≡◌, sym, subst, List, [], Some}
 use Rattle.hr_store.specs.Execution.{ExecState}
 use Rattle.hr_store.specs.Store.{IsSound, StoreState, exec_numbered}
-use Rattle.hr_store.proofs.StoreLemmas.{sound-failed}
+use Rattle.hr_store.proofs.SoundLemmas.{sound-failed}
 use Rattle.hr_store.proofs.store.Store.mark_failed.Goals as goal
 
 pub invariant_of-self : goal.invariant_of-self

@@ -1,7 +1,8 @@
 use Rattle.std.proofs.Common.{sym, subst, List}
 use Rattle.hr_store.specs.Execution.{ExecState}
 use Rattle.hr_store.specs.Store.{IsSound}
-use Rattle.hr_store.proofs.StoreLemmas.{heard-hook, receives-known, receives-raised, right-job, right-place, sound-heard, taken}
+use Rattle.hr_store.proofs.ReceivingLemmas.{heard-hook, receives-known, receives-raised, right-job, right-place, taken}
+use Rattle.hr_store.proofs.SoundLemmas.{sound-heard}
 use Rattle.hr_store.proofs.store.Store.receive.Goals as goal
 use Rattle.hr_store.proofs.store.Store.receive.Goals.{else-receive, then-receive}
 

@@ -1,7 +1,8 @@
 use Rattle.std.proofs.Common.{arith, ap, sym, length, subst, List, ℕ}
 use Rattle.hr_store.specs.Execution.{ExecState}
 use Rattle.hr_store.specs.Store.{StoreState, IsSound}
-use Rattle.hr_store.proofs.StoreLemmas.{length-kept, length-made, sound-swept}
+use Rattle.hr_store.proofs.OrderLemmas.{length-made}
+use Rattle.hr_store.proofs.SoundLemmas.{length-kept, sound-swept}
 use Rattle.hr_store.proofs.store.Store.sweep.Goals as goal
 
 pub overflow_sub-result : goal.overflow_sub-result
