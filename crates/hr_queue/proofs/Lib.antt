@@ -1,0 +1,6 @@
+mod AddingLemmas
+mod ByJobLemmas
+mod DelayedLemmas
+mod GainsLemmas
+mod ListLemmas
+mod WholeLemmas

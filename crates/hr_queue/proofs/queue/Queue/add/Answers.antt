@@ -1,0 +1,33 @@
+use Rattle.std.proofs.Common.{ℕ, List, ap, arith}
+use Rattle.hr_queue.specs.Adding.{Adds}
+use Rattle.hr_queue.specs.View.{View}
+use Rattle.hr_queue.specs.declared.answer.Queued.{Queued}
+use Rattle.hr_queue.proofs.AddingLemmas.{keeps_itself, keeps_after, next_new, still_distinct, adds_more}
+use Rattle.hr_queue.proofs.queue.Queue.add.Goals as goal
+
+pub loop-job-init : goal.loop-job-init
+loop-job-init g c = record {
+  adds = Adds.none_yet;
+  kept = keeps_itself _;
+  same = g.met.B.Board.same_as_itself _;
+  new = c.requires.new;
+  room = omega (arith, c.requires.room);
+}
+
+pub add_one-requires-clause-new : goal.add_one-requires-clause-new
+add_one-requires-clause-new g c =
+    next_new c.loop-job.self.added c.args.jobs.now c.loop-job.job-index
+    (record { job = record { 0 = 0 }; attempts = 0 }) c.loop-job-test.true c.loop-job.invariant.new
+
+pub loop-job-preserved : goal.loop-job-preserved
+loop-job-preserved g c =
+    let added : View → List Queued = λ q. q.added in
+    let spare : View → ℕ = λ q. q.spare in
+    record {
+      adds = adds_more _ _ _ _ _ _ _ _ _ c.loop-job-test.true c.loop-job.invariant.adds c.add_one.ensures.adds;
+      kept = keeps_after _ _ _ c.loop-job.invariant.kept c.add_one.ensures.kept;
+      same = g.met.B.Board.same_after _ _ _ c.loop-job.invariant.same c.add_one.ensures.same;
+      new = still_distinct _ _ _ _ _ c.loop-job-test.true c.loop-job.invariant.new
+          (ap added c.add_one.ensures.adds.after);
+      room = omega (arith, ap spare c.add_one.ensures.adds.after, c.loop-job.invariant.room);
+    }

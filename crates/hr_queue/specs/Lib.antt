@@ -1,0 +1,10 @@
+pub mod Adding
+pub mod ByJob
+pub mod Fate
+pub mod Gains
+pub mod Room
+pub mod Settling
+pub mod Taking
+pub mod View
+pub mod Whole
+pub use Rattle.hr_board.specs.View as board
