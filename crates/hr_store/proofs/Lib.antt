@@ -1,0 +1,10 @@
+mod KeptLemmas
+mod LawLemmas
+mod ListLemmas
+mod OrderLemmas
+mod PlaceLemmas
+mod RankLemmas
+mod ReceivingLemmas
+mod RowLemmas
+mod SoundLemmas
+mod SweepLemmas

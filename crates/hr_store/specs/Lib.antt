@@ -1,0 +1,10 @@
+pub mod Row
+pub mod Execution
+pub mod Store
+pub mod Places
+pub mod Kept
+pub mod Creating
+pub mod Receiving
+pub mod Sweeping
+pub mod Marking
+pub mod Laws
