@@ -8,6 +8,8 @@ mod delayed;
 mod fate;
 mod laws;
 mod queue;
+#[cfg(test)]
+mod tests;
 
 pub use answer::{DoneJob, Queued, Settled, Taken};
 pub use laws::{
