@@ -1,0 +1,4 @@
+pub mod State
+pub mod Weight
+pub mod Holds
+pub mod Part
