@@ -1,2 +1,7 @@
 mod ListLemmas
 mod MarkLemmas
+mod LaneLemmas
+mod RowLemmas
+mod KeepsLemmas
+mod OpeningLemmas
+mod WordLemmas

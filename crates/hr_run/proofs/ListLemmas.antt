@@ -59,9 +59,10 @@ get_at (y ∷ xs) zero x l e = ap Some e
 get_at (y ∷ xs) (suc k) x l e = get_at xs k x (omega (arith, l)) e
 
 -- what comes right behind some items
-pub get_behind : {X : Type 0} (xs ys : List X) (i : ℕ) → slice_get (xs ++ ys) (length xs + i) ≡ slice_get ys i
-get_behind [] ys i = refl
-get_behind (x ∷ xs) ys i = get_behind xs ys i
+pub get_behind : {X : Type 0} (xs ys : List X) (i n : ℕ) → n ≡ length xs + i → slice_get (xs ++ ys) n ≡ slice_get ys i
+get_behind [] ys i n e = ap (slice_get ys) (let k : n ≡ i = omega (arith, e) in k)
+get_behind (x ∷ xs) ys i zero e = absurd (omega (arith, e))
+get_behind (x ∷ xs) ys i (suc n) e = get_behind xs ys i n (omega (arith, e))
 
 pub there_first : {X : Type 0} (x : X) (xs : List X) → Contains (x ∷ xs) x
 there_first x xs = (0, omega arith, refl)

@@ -140,6 +140,11 @@ pub hook_all : (P : Hook → Type 0) (hooks : List Hook) (k : ℕ) (h : Hook) �
 hook_all P hooks zero h a e = absurd (cc)
 hook_all P hooks (suc at) h a e = all_at P hooks at h a e
 
+no_mark : (marks : List Bool) (n : ℕ) → marks ≡ [] → unwrap_or (slice_get marks n) false ≡ true → ⊥
+no_mark [] zero e q = cc
+no_mark [] (suc n) e q = cc
+no_mark (mark ∷ marks) n e q = cc
+
 -- the mark at a place was set, and the others are as before
 pub marks_other : (marks : List Bool) (place at : ℕ) → unwrap_or (slice_get (with_mark marks place) at) false ≡ true
     → (at ≡ place) ⊎ (unwrap_or (slice_get marks at) false ≡ true)
@@ -149,12 +154,8 @@ marks_other [] zero (suc (suc at)) e = absurd (cc)
 marks_other [] (suc place) zero e = absurd (cc)
 marks_other [] (suc place) (suc at) e = elim (marks_other [] place at e) [
   | inl same ↦ inl (ap suc same)
-  | inr before ↦ absurd (none_set at before)
+  | inr before ↦ absurd (no_mark [] at refl before)
 ]
-  where
-    none_set : (n : ℕ) → unwrap_or (slice_get {A = Bool} [] n) false ≡ true → ⊥
-    none_set zero q = cc
-    none_set (suc n) q = cc
 marks_other (mark ∷ marks) zero zero e = inl refl
 marks_other (mark ∷ marks) zero (suc at) e = inr e
 marks_other (mark ∷ marks) (suc place) zero e = inr e

@@ -8,6 +8,7 @@ use Rattle.hr_event.specs.declared.task.TaskSpec.{TaskSpec}
 use Rattle.hr_board.specs.Plain.{IsLawful, view_of}
 use Rattle.hr_board.specs.View as board
 use Rattle.hr_board.specs.View.{Noted, Notes, Place, Word}
+use Rattle.hr_line.specs.Finals.{EndsHold}
 use Rattle.hr_line.specs.Hooks.{HooksTell}
 use Rattle.hr_line.specs.Orderly.{IsOrderly}
 use Rattle.hr_line.specs.State.{State}
@@ -63,10 +64,12 @@ pub record IsReceived (hooks : List Hook) (store : StoreState) (number : ℕ) : 
   pub received : (heard : List Hook) → hooks_of_job hook.job.0 store.kept ≡ Some heard
       → Contains heard hook
 
--- a lane of the core: it is in order, its hooks go with its journal, and each revision that was
--- admitted to it is of a job that was made, and was noted at Running
+-- a lane of the core: it is in order, each end that its journal has is one that a revision may come
+-- to, its hooks go with its journal, and each revision that was admitted to it is of a job that was
+-- made, and was noted at Running
 pub record IsServing (made : List TaskSpec) (seen : board.View) (lane : State) : Type 0 where
   pub orderly : IsOrderly lane
+  pub ends : EndsHold lane
   pub hooks : HooksTell lane
   pub tasks : AllByRecursion (IsTask made) lane.admitted
   pub noted : AreNoted lane.admitted seen

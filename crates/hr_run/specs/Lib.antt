@@ -2,3 +2,4 @@ pub mod State
 pub mod Weight
 pub mod Holds
 pub mod Part
+pub mod Claims

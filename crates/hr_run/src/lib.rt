@@ -4,4 +4,4 @@
 
 mod laws;
 
-pub use laws::an_opening_is_one;
+pub use laws::{each_end_has_one_hook, hooks_are_covered, one_final_status, parts_keep};
