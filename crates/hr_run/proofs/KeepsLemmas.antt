@@ -27,7 +27,7 @@ use Rattle.hr_store.specs.Laws.{PutsHook, TakenIsPut, hooks_of_job}
 use Rattle.hr_store.specs.Receiving.{FindsWord, LeavesHook, ReceivesHook, TakesHook, was_made}
 use Rattle.hr_store.specs.Row.{RowState, is_among, with_hook}
 use Rattle.hr_store.specs.Store.{StoreState, execs_hearing, row_hearing, row_of_job}
-use Rattle.hr_run.specs.Holds.{CoveredBy, Holds, IsCovered, IsEmitted, IsReceived, IsServing}
+use Rattle.hr_run.specs.Holds.{CoveredBy, HasAttempts, Holds, IsCovered, IsEmitted, IsReceived, IsServing}
 use Rattle.hr_run.specs.Part.{Acts, Makes, Marks, Part, Parts, Passes, Receives, Stops, Turns, Works, stop_hook}
 use Rattle.hr_run.specs.Part.Part.{makes, passes, receives, stops, turns, works}
 use Rattle.hr_run.specs.Part.Parts.{next, none}
@@ -64,6 +64,12 @@ serving_more made more b c kept lane was = record {
 }
 
 module _ (s t : CoreState) (o : Holds s) (kept : Keeps (view_of s.board) (view_of t.board)) where
+  fits_same : s.store.limit ≤ (view_of t.board).jobs
+  fits_same = let was = o.fits in let jobs = kept.jobs in omega (arith, was, jobs)
+
+  fits_still : t.store.limit ≡ s.store.limit → t.store.limit ≤ (view_of t.board).jobs
+  fits_still same = let was = o.fits in let jobs = kept.jobs in omega (arith, was, jobs, same)
+
   lanes_still : AllByRecursion (IsServing s.made (view_of t.board)) s.lanes
   lanes_still = all_then (IsServing s.made (view_of s.board)) (IsServing s.made (view_of t.board))
       (serving_still s.made s.board t.board kept) s.lanes o.lanes
@@ -90,7 +96,7 @@ module _ (laws : OtherLaws) (s t : CoreState) (o : Holds s) where
         whole = h.whole;
         agrees = laws.calls s.turns t.turns (view_of s.board) (view_of t.board) [] o.agrees h.gains;
         added = h.gains.added ∙ append-nil s.turns.added ∙ o.added;
-        numbered = o.numbered; few = o.few; rows = o.rows;
+        numbered = o.numbered; fits = fits_same s t o kept; few = o.few; planned = o.planned; rows = o.rows;
         lanes = lanes_still s t o kept;
         shares = o.shares;
         finals = λ f. ap (sum_by f) same ∙ o.finals f;
@@ -117,7 +123,7 @@ module _ (laws : OtherLaws) (s t : CoreState) (o : Holds s) where
         lawful = h.lawful;
         whole = o.whole;
         agrees = laws.others s.turns (view_of s.board) (view_of t.board) o.agrees acts.kept acts.opens;
-        added = o.added; numbered = o.numbered; few = o.few; rows = o.rows;
+        added = o.added; numbered = o.numbered; fits = fits_same s t o acts.kept; few = o.few; planned = o.planned; rows = o.rows;
         lanes = lanes_still s t o acts.kept;
         shares = λ g. let a = more g in let b = more (stop_weight g) in let c = o.shares g in omega (arith, a, b, c);
         finals = λ f.
@@ -142,7 +148,8 @@ module _ (laws : OtherLaws) (s t : CoreState) (o : Holds s) where
         agrees = laws.others s.turns (view_of s.board) (view_of t.board) o.agrees kept h.acts.opens;
         added = o.added;
         numbered = h.jobs ∙ o.numbered;
-        few = o.few;
+        fits = fits_still s t o kept h.limit;
+        few = o.few; planned = o.planned;
         rows = λ job row e. o.rows job row (h.rows job row e);
         lanes = lanes_still s t o kept;
         shares = o.shares;
@@ -155,28 +162,28 @@ module _ (laws : OtherLaws) (s t : CoreState) (o : Holds s) where
 
   pub keeps_works : LaneLaws → Works s t → Holds t
   keeps_works lane_laws h =
-      let was = all_at (IsServing s.made (view_of s.board)) s.lanes h.at h.lane o.lanes h.there in
-      let w = worked_so lane_laws s.made s.board t.board h.lane h.worked h.more h.lawful was h.gave h.does in
+      let was = all_at (IsServing s.made (view_of s.board)) s.lanes h.at h.lane o.lanes h.calls.there in
+      let w = worked_so lane_laws s.made s.board t.board h.lane h.worked h.calls.more h.lawful was h.calls.gave h.does in
       let kept = w.acts.kept in
       let L : List State → Type 0 = λ ls. AllByRecursion (IsServing s.made (view_of t.board)) ls in
       let E : List Hook → Type 0 = λ hs. AllByRecursion (IsEmitted s.made t.board.past.notes) hs in
       let R : List Hook → ℕ → Type 0 = λ hs k. IsReceived hs s.store k in
-      let more : (g : Hook → ℕ) → sum_by g t.hooks ≡ sum_by g s.hooks + sum_by g h.more =
-      λ g. ap (sum_by g) h.hooks ∙ sum_by-append g s.hooks h.more in
-      subst (λ (u : CoreState). Holds u) (sym h.after) (record {
+      let more : (g : Hook → ℕ) → sum_by g t.hooks ≡ sum_by g s.hooks + sum_by g h.calls.more =
+      λ g. ap (sum_by g) h.calls.hooks ∙ sum_by-append g s.hooks h.calls.more in
+      subst (λ (u : CoreState). Holds u) (sym h.calls.after) (record {
         lawful = h.lawful;
         whole = o.whole;
         agrees = laws.others s.turns (view_of s.board) (view_of t.board) o.agrees kept w.acts.opens;
-        added = o.added; numbered = o.numbered; few = o.few; rows = o.rows;
-        lanes = subst L (sym h.lanes)
+        added = o.added; numbered = o.numbered; fits = fits_same s t o kept; few = o.few; planned = o.planned; rows = o.rows;
+        lanes = subst L (sym h.calls.lanes)
           (all_set (IsServing s.made (view_of t.board)) s.lanes h.at h.worked (lanes_still s t o kept) w.serving);
         shares = λ g.
           let a = more g in
           let b = more (stop_weight g) in
           let c = o.shares g in
-          let l = ap (sum_by (lane_weight g)) h.lanes in
-          let m = sum_set (lane_weight g) s.lanes h.at h.lane h.worked h.there in
-          let n = ap (sum_by g) h.gave ∙ sum_by-append g h.more h.lane.hooks in
+          let l = ap (sum_by (lane_weight g)) h.calls.lanes in
+          let m = sum_set (lane_weight g) s.lanes h.at h.lane h.worked h.calls.there in
+          let n = ap (sum_by g) h.calls.gave ∙ sum_by-append g h.calls.more h.lane.hooks in
           let u = w.unstopped g in
           omega (arith, a, b, c, l, m, n, u);
         finals = λ f.
@@ -185,10 +192,10 @@ module _ (laws : OtherLaws) (s t : CoreState) (o : Holds s) where
           let c = o.finals f in
           let d = w.weights f in
           omega (arith, a, b, c, d);
-        emitted = subst E (sym h.hooks)
-          (all_append (IsEmitted s.made t.board.past.notes) s.hooks h.more (emitted_all s t o kept) w.emitted);
+        emitted = subst E (sym h.calls.hooks)
+          (all_append (IsEmitted s.made t.board.past.notes) s.hooks h.calls.more (emitted_all s t o kept) w.emitted);
         received = λ job heard e. covered_all s t o kept job heard (o.received job heard e);
-        delivered = λ k e. subst (λ (hs : List Hook). R hs k) (sym h.hooks) (delivered_more s.hooks h.more s.store k (o.delivered k e));
+        delivered = λ k e. subst (λ (hs : List Hook). R hs k) (sym h.calls.hooks) (delivered_more s.hooks h.calls.more s.store k (o.delivered k e));
       })
 
   -- ---- an execution is made
@@ -223,7 +230,7 @@ module _ (laws : OtherLaws) (s t : CoreState) (o : Holds s) where
         let same : t.board.past.finals ≡ s.board.past.finals = h.gains.finals in
         let M : List TaskSpec → Type 0 = λ made. AllByRecursion (IsServing made (view_of t.board)) s.lanes in
         let E : List TaskSpec → Type 0 = λ made. AllByRecursion (IsEmitted made t.board.past.notes) s.hooks in
-        let F : List TaskSpec → Type 0 = λ made. AllByRecursion (λ x. x.attempts ≤ 4) made in
+        let F : List TaskSpec → Type 0 = λ made. AllByRecursion HasAttempts made in
         let S : List TaskSpec → ℕ → TaskSpec → Type 0 = λ made job spec. spec_of made job ≡ Some spec in
         let N : List Hook → ℕ → Type 0 = λ heard job. AllByRecursion (IsCovered t.board.past.notes job) heard in
         subst (λ (u : CoreState). Holds u) (sym h.after) (record {
@@ -234,7 +241,9 @@ module _ (laws : OtherLaws) (s t : CoreState) (o : Holds s) where
             ∙ sym (queued_more 0 (length s.made) s.made h.specs (omega arith)) ∙ ap (queued_from 0) (sym h.made);
           numbered = jobs_is ∙ ap (λ (n : ℕ). n + length h.specs) o.numbered ∙ sym (length-append s.made h.specs)
             ∙ ap (λ (made : List TaskSpec). length made) (sym h.made);
-          few = subst F (sym h.made) (all_append (λ (x : TaskSpec). x.attempts ≤ 4) s.made h.specs o.few h.few);
+          fits = fits_still s t o kept (ap (λ (x : StoreState). x.limit) h.created.after_is);
+          few = subst F (sym h.made) (all_append HasAttempts s.made h.specs o.few h.few);
+          planned = o.planned;
           rows = λ job row e. subst (λ (made : List TaskSpec). S made job row.spec) (sym h.made) (elim (made_row job row e) [
             | inl old ↦ spec_more s.made h.specs job row.spec (o.rows job row old)
             | inr new ↦ new.0
@@ -267,6 +276,7 @@ module _ (laws : OtherLaws) (s t : CoreState) (o : Holds s) where
 record Heard (s t : CoreState) (hook : Hook) : Type 0 where
   acts : Acts s.board t.board []
   jobs : t.store.jobs ≡ s.store.jobs
+  limit : t.store.limit ≡ s.store.limit
   rows : (job : ℕ) (row : RowState) → row_of_job job t.store.kept ≡ Some row → spec_of s.made job ≡ Some row.spec
   covered : (job : ℕ) (heard : List Hook) → hooks_of_job job t.store.kept ≡ Some heard
       → AllByRecursion (IsCovered t.board.past.notes job) heard
@@ -287,6 +297,7 @@ module _ (laws : OtherLaws) (s t : CoreState) (o : Holds s) (hook : Hook) (lawfu
       record {
         acts = acts;
         jobs = ap (λ (x : StoreState). x.jobs) same;
+        limit = ap (λ (x : StoreState). x.limit) same;
         rows = λ job row e. o.rows job row (sym (ap (row_of_job job) kept) ∙ e);
         covered = λ job heard e. covered_all s t o acts.kept job heard (o.received job heard (sym (H job) ∙ e));
         stay = λ job x heard e has. has heard (sym (H job) ∙ e);
@@ -320,6 +331,7 @@ module _ (laws : OtherLaws) (s t : CoreState) (o : Holds s) (hook : Hook) (lawfu
       record {
         acts = acts;
         jobs = ap (λ (x : StoreState). x.jobs) h.after_is;
+        limit = ap (λ (x : StoreState). x.limit) h.after_is;
         rows = λ job row e. (let r = hearing_row hook (row_of_job job s.store.kept) row
           (sym (laws.reach hook job s.store.kept) ∙ sym (ap (row_of_job job) kept) ∙ e) in
           o.rows job r.0 r.1 ∙ ap Some r.2);
@@ -397,7 +409,9 @@ keeps_receives laws s t o r =
       agrees = laws.others s.turns (view_of s.board) (view_of t.board) o.agrees kept h.acts.opens;
       added = o.added;
       numbered = h.jobs ∙ o.numbered;
+      fits = fits_still s t o kept h.limit;
       few = o.few;
+      planned = o.planned;
       rows = h.rows;
       lanes = lanes_still s t o kept;
       shares = o.shares;

@@ -5,3 +5,8 @@ mod RowLemmas
 mod KeepsLemmas
 mod OpeningLemmas
 mod WordLemmas
+mod JoinLemmas
+mod DoneLemmas
+mod RunLemmas
+mod StepLemmas
+mod FinishLemmas

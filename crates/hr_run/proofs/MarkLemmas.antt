@@ -15,7 +15,7 @@ use Rattle.hr_board.specs.Moves.{Below}
 use Rattle.hr_board.specs.Plain.{IsLawful, Plain, view_of}
 use Rattle.hr_board.specs.View.{Keeps, Noted, Notes, Place, View, Word}
 use Rattle.hr_line.specs.declared.held.Admitted.{Admitted}
-use Rattle.hr_run.specs.Holds.{CoveredBy, IsCovered, IsEmitted, IsRevision, IsTask}
+use Rattle.hr_run.specs.Holds.{CoveredBy, HasAttempts, IsCovered, IsEmitted, IsRevision, IsTask}
 use Rattle.hr_run.specs.Part.{Acts}
 use Rattle.hr_run.specs.State.{hook_at, hook_place, spec_of, status_word, was_delivered, with_mark}
 use Rattle.hr_run.proofs.ListLemmas.{all_at, all_then, get_more, get_within}
@@ -118,10 +118,10 @@ pub spec_within : (made : List TaskSpec) (job : ℕ) (spec : TaskSpec) → spec_
 spec_within made zero spec e = absurd (cc)
 spec_within made (suc at) spec e = let g = get_within made at spec e in (omega arith, omega (arith, g))
 
-pub few_each : (made : List TaskSpec) (job : ℕ) (spec : TaskSpec) → AllByRecursion (λ x. x.attempts ≤ 4) made
+pub few_each : (made : List TaskSpec) (job : ℕ) (spec : TaskSpec) → AllByRecursion HasAttempts made
     → spec_of made job ≡ Some spec → spec.attempts ≤ 4
 few_each made zero spec few e = absurd (cc)
-few_each made (suc at) spec few e = all_at (λ (x : TaskSpec). x.attempts ≤ 4) made at spec few e
+few_each made (suc at) spec few e = (all_at HasAttempts made at spec few e).1
 
 pub revision_more : (made more : List TaskSpec) (job rev : ℕ) → IsRevision made job rev → IsRevision (made ++ more) job rev
 revision_more made more job rev r =

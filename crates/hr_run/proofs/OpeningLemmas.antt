@@ -1,7 +1,8 @@
 -- What holds as the core opens.
-use Rattle.std.proofs.Common.{◌≡◌, refl, sym, ap, ◌∙◌, zero, suc, ℕ, ◌+◌, ◌≤◌, List, [], ◌∷◌, arith}
+use Rattle.std.proofs.Common.{◌≡◌, refl, sym, ap, ◌∙◌, zero, suc, ℕ, ◌+◌, ◌*◌, ◌/◌, ◌≤◌, List, [], ◌∷◌, length, subst, arith}
+use Rattle.std.proofs.lemmas.List.{length-replicate}
 use Rattle.std.proofs.lemmas.List.Sums.{sum_by-cons}
-use Rattle.std.specs.Prelude.{Option, IsSome, slice_get, unwrap_or, false, true}
+use Rattle.std.specs.Prelude.{Option, IfSome, IsSome, replicate, slice_get, unwrap_or, false, true}
 use Rattle.std.specs.List.{AllByRecursion, sum_by}
 use Rattle.hr_base.specs.declared.status.Hook.{Hook}
 use Rattle.hr_event.specs.declared.task.TaskSpec.{TaskSpec}
@@ -16,11 +17,10 @@ use Rattle.hr_line.specs.declared.held.Admitted.{Admitted}
 use Rattle.hr_lane.specs.Admission.{AreNoted}
 use Rattle.hr_queue.specs.Gains.{Agrees}
 use Rattle.hr_queue.specs.View.{empty_queue}
-use Rattle.hr_run.specs.Holds.{Holds, IsServing, IsTask}
+use Rattle.hr_run.specs.Holds.{HasAttempts, Holds, IsServing, IsTask}
 use Rattle.hr_run.specs.State.{opening, was_delivered}
 use Rattle.hr_run.specs.Weight.{lane_weight}
 use Rattle.hr_run.proofs.ListLemmas.{all_then}
-use Rattle.std.proofs.Common.{subst}
 
 no_hooks : (g : Hook → ℕ) (lanes : List State) → AllByRecursion IsOpening lanes → sum_by (lane_weight g) lanes ≡ 0
 no_hooks g [] a = refl
@@ -46,9 +46,9 @@ module _ (orderly : (s : State) → IsOpening s → IsOrderly s) (ends : (s : St
   }
 
   pub opens : (lanes : List State) (others : List Link) (plan : Option (List TaskSpec)) (jobs : ℕ)
-      → AllByRecursion IsOpening lanes → IsLawful (new_board jobs).words (new_board jobs).past
-      → Holds (opening lanes others plan jobs)
-  opens lanes others plan jobs a lawful = record {
+      → AllByRecursion IsOpening lanes → IfSome plan (AllByRecursion HasAttempts)
+      → IsLawful (new_board jobs).words (new_board jobs).past → Holds (opening lanes others plan jobs)
+  opens lanes others plan jobs a planned lawful = record {
     lawful = lawful;
     whole = record {
       turns = record { waits = tt; delays = tt; outs = tt; rising = tt };
@@ -59,7 +59,9 @@ module _ (orderly : (s : State) → IsOpening s → IsOrderly s) (ends : (s : St
     agrees = agrees (view_of (new_board jobs)) refl;
     added = refl;
     numbered = refl;
+    fits = (let l = length-replicate {A = ℕ} (4 * jobs) 0 in omega (arith, l));
     few = tt;
+    planned = planned;
     rows = λ job row e. absurd (cc);
     lanes = all_then IsOpening (IsServing [] (view_of (new_board jobs))) (serves [] (view_of (new_board jobs))) lanes a;
     shares = λ g. (let n = no_hooks g lanes a in omega (arith, n));

@@ -1,6 +1,6 @@
 -- What operators rest on, of the core at one moment. (Our own, after Harbor's job service and its
 -- task manager.)
-use Rattle.std.specs.Prelude.{◌≡◌, ◌≢◌, ℕ, ◌+◌, ◌<◌, ◌≤◌, true, List, [], slice_index, Option, Some}
+use Rattle.std.specs.Prelude.{◌≡◌, ◌≢◌, ℕ, ◌+◌, ◌<◌, ◌≤◌, true, List, [], slice_get, slice_index, Option, Some}
 use Rattle.std.specs.List.{Contains, sum_by}
 use Rattle.hr_base.specs.Merge.{joined}
 use Rattle.hr_base.specs.declared.status.Hook.{Hook}
@@ -14,6 +14,7 @@ use Rattle.hr_board.specs.Over.{IsOver}
 use Rattle.hr_board.specs.Plain.{Plain}
 use Rattle.hr_board.specs.View.{Place, Word, place_of}
 use Rattle.hr_line.specs.State.{State}
+use Rattle.hr_session.specs.Holds.{LaneRuns}
 use Rattle.hr_store.specs.Laws.{hooks_of_job}
 use Rattle.hr_run.specs.Holds.{CoveredBy}
 use Rattle.hr_run.specs.State.{CoreState, hook_at, hook_place, spec_of, status_word, was_delivered}
@@ -81,3 +82,8 @@ pub record AllDone (s : CoreState) : Type 0 where
   pub current : (job : ℕ) (spec : TaskSpec) (heard : List Hook) → spec_of s.made job ≡ Some spec
       → hooks_of_job job s.store.kept ≡ Some heard
       → IsCurrent s.board.words job spec.attempts (joined heard)
+
+-- each lane came from what it was by calls, one after the other
+abbrev pub LanesRun : List State → List State → Type 0
+LanesRun before after = (at : ℕ) (lane : State) → slice_get before at ≡ Some lane
+    → (now : State) × (slice_get after at ≡ Some now) × LaneRuns lane now

@@ -1,5 +1,5 @@
 -- What holds of the core at every moment. (Our own.)
-use Rattle.std.specs.Prelude.{◌≡◌, ℕ, ◌+◌, ◌<◌, ◌≤◌, true, List, length, Option, Some}
+use Rattle.std.specs.Prelude.{◌≡◌, ℕ, ◌+◌, ◌<◌, ◌≤◌, true, List, length, Option, Some, IfSome}
 use Rattle.std.specs.List.{AllByRecursion, Contains, sum_by}
 use Rattle.hr_base.specs.declared.status.Status.{Status}
 use Rattle.hr_base.specs.declared.status.Status.TheVariants as status
@@ -30,6 +30,10 @@ CoveredBy status.Running word = 3 ≤ word
 CoveredBy status.Stopped word = word ≡ 4
 CoveredBy status.Error word = word ≡ 5
 CoveredBy status.Success word = word ≡ 6
+
+-- a task has from 1 to 4 attempts
+abbrev pub HasAttempts : TaskSpec → Type 0
+HasAttempts spec = (1 ≤ spec.attempts) × (spec.attempts ≤ 4)
 
 -- a revision of a job that was made, below its attempts
 pub record IsRevision (made : List TaskSpec) (job rev : ℕ) : Type 0 where
@@ -83,7 +87,9 @@ pub record Holds (s : CoreState) : Type 0 where
   -- each job that was made was added to the queue, and no other; their rows tell what they copy
   pub added : s.turns.added ≡ queued_from 0 s.made
   pub numbered : s.store.jobs ≡ length s.made
-  pub few : AllByRecursion (λ spec. spec.attempts ≤ 4) s.made
+  pub fits : s.store.limit ≤ (view_of s.board).jobs
+  pub few : AllByRecursion HasAttempts s.made
+  pub planned : IfSome s.plan (AllByRecursion HasAttempts)
   pub rows : (job : ℕ) (row : RowState) → row_of_job job s.store.kept ≡ Some row
       → spec_of s.made job ≡ Some row.spec
   -- each lane is in order

@@ -3,3 +3,6 @@ pub mod Weight
 pub mod Holds
 pub mod Part
 pub mod Claims
+pub mod Sound
+pub mod Step
+pub mod Does

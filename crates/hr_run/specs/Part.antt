@@ -29,7 +29,7 @@ use Rattle.hr_store.specs.Receiving.{ReceivesHook}
 use Rattle.hr_store.specs.Row.{RowState}
 use Rattle.hr_store.specs.Store.{row_of_job}
 use Rattle.hr_session.specs.Lane.{IsLaneSound}
-use Rattle.hr_run.specs.Holds.{IsTask}
+use Rattle.hr_run.specs.Holds.{HasAttempts, IsTask}
 use Rattle.hr_run.specs.State.{CoreState, hook_at, queued_from, spec_of, with_mark}
 
 -- what a part that opens no word does to the board: it notes words, and ends these
@@ -48,7 +48,7 @@ pub record Makes (s t : CoreState) : Type 0 where
   pub specs : List TaskSpec
   pub now : Moment
   pub exec : ExecNo
-  pub few : AllByRecursion (λ spec. spec.attempts ≤ 4) specs
+  pub few : AllByRecursion HasAttempts specs
   pub created : IsCreated s.store policy trigger specs now exec t.store
   pub lawful : IsLawful t.board.words t.board.past
   pub whole : IsWhole t.turns
@@ -71,21 +71,26 @@ pub data LaneDoes (made : List TaskSpec) (lane worked : State) (v w : board.View
   steps : (job : JobNo) (came : Stepped) → Steps lane worked job v w came
       → LaneDoes made lane worked v w
 
--- a lane was called, and the hooks that it gave, the newest first, were emitted: one at most
-pub record Works (s t : CoreState) : Type 0 where
-  pub at : ℕ
-  pub lane : State
-  pub worked : State
+-- the lane at a place was called, and the hooks that it gave, the newest first, were emitted: one at
+-- most
+pub record CallsLane (s : CoreState) (at : ℕ) (lane worked : State) (t : CoreState) : Type 0 where
   pub there : slice_get s.lanes at ≡ Some lane
   pub sound : IsLaneSound lane
   pub sound_after : IsLaneSound worked
-  pub does : LaneDoes s.made lane worked (view_of s.board) (view_of t.board)
-  pub lawful : IsLawful t.board.words t.board.past
   pub more : List Hook
   pub gave : worked.hooks ≡ more ++ lane.hooks
   pub lanes : t.lanes ≡ slice_set s.lanes at worked
   pub hooks : t.hooks ≡ s.hooks ++ more
   pub after : t ≡ record s { board = t.board; lanes = t.lanes; hooks = t.hooks }
+
+-- a lane admitted a revision, or made a step
+pub record Works (s t : CoreState) : Type 0 where
+  pub at : ℕ
+  pub lane : State
+  pub worked : State
+  pub calls : CallsLane s at lane worked t
+  pub does : LaneDoes s.made lane worked (view_of s.board) (view_of t.board)
+  pub lawful : IsLawful t.board.words t.board.past
 
 -- the hook of a stop
 abbrev pub stop_hook : JobNo → ℕ → Hook
@@ -123,6 +128,7 @@ pub record Receives (s t : CoreState) : Type 0 where
 pub record Passes (s t : CoreState) : Type 0 where
   pub acts : Acts s.board t.board []
   pub jobs : t.store.jobs ≡ s.store.jobs
+  pub limit : t.store.limit ≡ s.store.limit
   pub rows : (job : ℕ) (row : RowState) → row_of_job job t.store.kept ≡ Some row
       → row_of_job job s.store.kept ≡ Some row
   pub after : t ≡ record s { board = t.board; store = t.store; now = t.now }

@@ -4,4 +4,6 @@
 
 mod laws;
 
-pub use laws::{each_end_has_one_hook, hooks_are_covered, one_final_status, parts_keep};
+pub use laws::{
+    done_when_finished, each_end_has_one_hook, hooks_are_covered, one_final_status, parts_keep,
+};

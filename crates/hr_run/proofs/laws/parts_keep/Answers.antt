@@ -4,9 +4,9 @@ use Rattle.hr_run.proofs.OpeningLemmas.{opens}
 use Rattle.hr_run.proofs.laws.parts_keep.Goals as goal
 
 pub returns-clause-opens : goal.returns-clause-opens
-returns-clause-opens c lanes others plan jobs new lawful =
+returns-clause-opens c lanes others plan jobs new planned lawful =
     opens c.lanes_stay_in_order.ensures.opens c.ends_are_what_the_journal_shows.ensures.opens c.hooks_go_with_the_journal.ensures.opens
-    c.a_queue_agrees_with_its_board.ensures.new lanes others plan jobs new lawful
+    c.a_queue_agrees_with_its_board.ensures.new lanes others plan jobs new planned lawful
 
 pub returns-clause-one : goal.returns-clause-one
 returns-clause-one c s t =
