@@ -10,3 +10,4 @@ mod DoneLemmas
 mod RunLemmas
 mod StepLemmas
 mod FinishLemmas
+mod PromiseLemmas
