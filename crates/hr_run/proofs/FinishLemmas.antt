@@ -11,14 +11,14 @@ use Rattle.hr_event.specs.declared.told.Told.{Told}
 use Rattle.hr_queue.specs.View as queue
 use Rattle.hr_queue.specs.declared.answer.Taken.TheVariants as taken
 use Rattle.hr_run.specs.Claims.{IsFinished}
-use Rattle.hr_run.specs.Does as does
-use Rattle.hr_run.specs.Does.{Cut, DeliversFrom, DeliversSome, Does, Finishes, Rounds, Runs, RunsRounds, StepsOut, StepsSome, TakeCut}
+use Rattle.hr_run.specs.Finish.{DeliversFrom, Finishes, Rounds, RunsRounds, RunsTurn, StepsOut}
+use Rattle.hr_run.specs.Run.{Cut, DeliversSome, Does, Runs, StepsSome, TakeCut}
 use Rattle.hr_run.specs.Holds.{Holds}
 use Rattle.hr_run.specs.Part.{Part, Parts}
 use Rattle.hr_run.specs.Part.Parts.{next, none}
 use Rattle.hr_run.specs.Sound.{IsSound}
 use Rattle.hr_run.specs.State.{CoreState, hook_at, was_delivered, with_mark}
-use Rattle.hr_run.specs.Step.{Delivers}
+use Rattle.hr_run.specs.Delivering.{Delivers}
 use Rattle.hr_run.proofs.KeepsLemmas.{OtherLaws, keeps_parts}
 use Rattle.hr_run.proofs.LaneLemmas.{LaneLaws}
 use Rattle.hr_run.proofs.ListLemmas.{get_within}
@@ -44,7 +44,7 @@ module _ (lane_laws : LaneLaws) (laws : OtherLaws) (calls : CallLaws) where
       after_parts s h.mid t first
       (one_part h.mid t (settle_part lane_laws laws calls h.mid t job h.answer (keeps s h.mid o first) sound h.settles))
 
-  turn_parts : (s t : CoreState) → Holds s → IsSound t → does.RunsTurn s t → Parts s t
+  turn_parts : (s t : CoreState) → Holds s → IsSound t → RunsTurn s t → Parts s t
   turn_parts s t o sound h =
       let first = take_parts lane_laws laws calls s h.mid h.answer o h.sound h.takes in
       after_parts s h.mid t first (round_parts h.mid t (h.takes.turn).job (keeps s h.mid o first) sound h.rounds)

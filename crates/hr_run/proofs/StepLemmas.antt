@@ -44,8 +44,11 @@ use Rattle.hr_run.specs.Part.Part.{makes, passes, receives, stops, turns, works}
 use Rattle.hr_run.specs.Part.Parts.{next, none}
 use Rattle.hr_run.specs.Sound.{IsSound}
 use Rattle.hr_run.specs.State.{CoreState, hook_at, queued_from, spec_of}
-use Rattle.hr_run.specs.Step.{AdmitsTurn, Creates, Delivers, FailsToPlan, FindsFinal, FindsHeld, FindsNoHook, FindsNoJob, FindsNotOut, FindsSwept, Forges, GoesOut, IsFull, LooksAt, Reserves, SettlesOut, StepsJob, StepsNone, StopsJob, Sweeps, TakesNone, TakesTurn, Triggers, Waits}
-use Rattle.hr_run.specs.Step.Triggers.{creates, fails, is_full, no_policy}
+use Rattle.hr_run.specs.Triggering.{Creates, FailsToPlan, IsFull, Reserves, Triggers}
+use Rattle.hr_run.specs.Turning.{AdmitsTurn, FindsHeld, FindsNotOut, FindsSwept, GoesOut, SettlesOut, StepsJob, StepsNone, TakesNone, TakesTurn}
+use Rattle.hr_run.specs.Stopping.{FindsFinal, FindsNoJob, LooksAt, StopsJob}
+use Rattle.hr_run.specs.Delivering.{Delivers, FindsNoHook, Forges, Sweeps, Waits}
+use Rattle.hr_run.specs.Triggering.Triggers.{creates, fails, is_full, no_policy}
 use Rattle.hr_run.proofs.DoneLemmas.{queued_made, WasMade, made_spec}
 use Rattle.hr_run.proofs.KeepsLemmas.{OtherLaws, keeps_parts, keeps_turns}
 use Rattle.hr_run.proofs.LaneLemmas.{LaneLaws, quiet_acts, still_acts}
@@ -324,7 +327,7 @@ module _ (lane_laws : LaneLaws) (laws : OtherLaws) (calls : CallLaws) where
   trigger_parts s t answer policy o before sound (no_policy other tells same) = no_part s t same
   trigger_parts s t answer policy o before sound (fails one h) = fail_parts s t answer o before sound h
   trigger_parts s t answer policy o before sound (creates specs one h) = create_parts s t specs answer o sound h
-  trigger_parts s t answer policy o before sound (is_full specs one h) = one_part s t (reserve_part s t sound h.after)
+  trigger_parts s t answer policy o before sound (is_full one h) = one_part s t (reserve_part s t sound h.after)
 
   number_parts : (s t : CoreState) (number : ℕ) (answer : Told) → Holds s → IsSound t → DeliversNumber s number answer t → Parts s t
   number_parts s t zero answer o sound h = no_part s t h.same

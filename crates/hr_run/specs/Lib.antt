@@ -4,5 +4,10 @@ pub mod Holds
 pub mod Part
 pub mod Claims
 pub mod Sound
-pub mod Step
+pub mod Triggering
+pub mod Turning
+pub mod Stopping
+pub mod Delivering
 pub mod Does
+pub mod Finish
+pub mod Run

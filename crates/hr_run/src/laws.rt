@@ -11,9 +11,10 @@ ghost use Rattle.hr_line.specs.State.{AreSound, Link, State};
 ghost use Rattle.hr_session.specs.Holds.{LaneHolds, LaneRuns};
 ghost use Rattle.hr_session.specs.Lane.{IsLaneSound};
 ghost use Rattle.hr_run.specs.Claims.{AllConfirmed, AllDone, IsFinished, LanesRun, OneEach, OneFinal};
-ghost use Rattle.hr_run.specs.Does.{Cut, Does, Finishes, Runs};
+ghost use Rattle.hr_run.specs.Finish.{Finishes};
 ghost use Rattle.hr_run.specs.Holds.{HasAttempts, Holds};
 ghost use Rattle.hr_run.specs.Part.{Part, Parts};
+ghost use Rattle.hr_run.specs.Run.{Cut, Does, Runs};
 ghost use Rattle.hr_run.specs.Sound.{IsSound};
 ghost use Rattle.hr_run.specs.State.{CoreState, opening};
 
