@@ -158,7 +158,7 @@ same_spec made job j x y e f q =
     let k : Some x ≡ Some y = sym e ∙ ap (spec_of made) q ∙ f in
     let same : x ≡ y = cc in ap (λ (z : TaskSpec). z.attempts) same
 
-unopened : (s : CoreState) → Holds s → (job rev : ℕ) (spec : TaskSpec) → spec_of s.made job ≡ Some spec → rev < 4
+pub unopened : (s : CoreState) → Holds s → (job rev : ℕ) (spec : TaskSpec) → spec_of s.made job ≡ Some spec → rev < 4
     → spec.attempts ≤ rev → word_at s.board (place_of job rev) ≡ 0
 unopened s o job rev spec e small big = elim (cases_lt 0 (word_at s.board (place_of job rev))) [
   | inl some ↦ absurd (
@@ -183,7 +183,7 @@ record IsOverAt (s : CoreState) (job : ℕ) (row : ℕ × Status) : Type 0 where
   within : row.0 < 4
   beyond : (r : ℕ) → row.0 < r → r < 4 → word_at s.board (place_of job r) ≡ 0
 
-ends_final : (attempts : ℕ) (row : ℕ × Status) → EndsJob attempts row → 4 ≤ status_word row.1
+pub ends_final : (attempts : ℕ) (row : ℕ × Status) → EndsJob attempts row → 4 ≤ status_word row.1
 ends_final attempts row (inl e) = subst (λ (x : Status). 4 ≤ status_word x) (sym e) (omega arith)
 ends_final attempts row (inr (inl e)) = subst (λ (x : Status). 4 ≤ status_word x) (sym e) (omega arith)
 ends_final attempts row (inr (inr e)) = subst (λ (x : Status). 4 ≤ status_word x) (sym e.0) (omega arith)

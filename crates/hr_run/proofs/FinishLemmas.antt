@@ -101,7 +101,7 @@ module _ (lane_laws : LaneLaws) (laws : OtherLaws) (calls : CallLaws) where
   -- ---- what memory cut short
 
   take_cut : (s t : CoreState) → IsSound t → TakeCut s t → Parts s t
-  take_cut s t sound (TakeCut.taken_out turn h) = one_part s t (out_part lane_laws laws calls s t (taken.Turn turn) sound h)
+  take_cut s t sound (turn, h) = one_part s t (out_part lane_laws laws calls s t (taken.Turn turn) sound h)
 
   pub cut_parts : (s t : CoreState) (e : Event) → Holds s → IsSound s → IsSound t → Cut s e t → Parts s t
   cut_parts s _ e o before sound (Cut.before _ _) = none s

@@ -11,3 +11,4 @@ mod RunLemmas
 mod StepLemmas
 mod FinishLemmas
 mod PromiseLemmas
+mod TellLemmas

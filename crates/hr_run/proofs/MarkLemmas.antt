@@ -118,10 +118,14 @@ pub spec_within : (made : List TaskSpec) (job : ℕ) (spec : TaskSpec) → spec_
 spec_within made zero spec e = absurd (cc)
 spec_within made (suc at) spec e = let g = get_within made at spec e in (omega arith, omega (arith, g))
 
+pub attempts_each : (made : List TaskSpec) (job : ℕ) (spec : TaskSpec) → AllByRecursion HasAttempts made → spec_of made job ≡ Some spec
+    → HasAttempts spec
+attempts_each made zero spec few e = absurd (cc)
+attempts_each made (suc at) spec few e = all_at HasAttempts made at spec few e
+
 pub few_each : (made : List TaskSpec) (job : ℕ) (spec : TaskSpec) → AllByRecursion HasAttempts made
     → spec_of made job ≡ Some spec → spec.attempts ≤ 4
-few_each made zero spec few e = absurd (cc)
-few_each made (suc at) spec few e = (all_at HasAttempts made at spec few e).1
+few_each made job spec few e = (attempts_each made job spec few e).1
 
 pub revision_more : (made more : List TaskSpec) (job rev : ℕ) → IsRevision made job rev → IsRevision (made ++ more) job rev
 revision_more made more job rev r =

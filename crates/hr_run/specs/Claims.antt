@@ -10,12 +10,14 @@ use Rattle.hr_event.specs.declared.entry.Entry.{Entry}
 use Rattle.hr_event.specs.declared.entry.What.TheVariants.{Ended}
 use Rattle.hr_event.specs.declared.task.TaskSpec.{TaskSpec}
 use Rattle.hr_board.specs.Current.{IsCurrent}
-use Rattle.hr_board.specs.Over.{IsOver}
+use Rattle.hr_board.specs.Over.{EndsJob, IsOver}
 use Rattle.hr_board.specs.Plain.{Plain}
 use Rattle.hr_board.specs.View.{Place, Word, place_of}
 use Rattle.hr_line.specs.State.{State}
-use Rattle.hr_session.specs.Holds.{LaneRuns}
+use Rattle.hr_session.specs.Holds.{LaneHolds, LaneRuns}
 use Rattle.hr_store.specs.Laws.{hooks_of_job}
+use Rattle.hr_store.specs.Row.{RowState}
+use Rattle.hr_store.specs.Store.{row_of_job}
 use Rattle.hr_run.specs.Holds.{CoveredBy}
 use Rattle.hr_run.specs.State.{CoreState, hook_at, hook_place, spec_of, status_word, was_delivered}
 use Rattle.hr_run.specs.Weight.{at, entry_weight, final_weight}
@@ -64,6 +66,15 @@ abbrev pub AllConfirmed : CoreState → Type 0
 AllConfirmed s = (job : ℕ) (heard : List Hook) (hook : Hook)
     → hooks_of_job job s.store.kept ≡ Some heard → Contains heard hook → IsConfirmed s.board job hook
 
+-- what rows tell: a row at a final status tells the word of its revision, and a row that ends its job
+-- is of one that is over
+pub record RowsTell (s : CoreState) : Type 0 where
+  pub final : (job : ℕ) (row : RowState) → row_of_job job s.store.kept ≡ Some row
+      → 4 ≤ status_word (joined row.received).1
+      → word_at s.board (place_of job (joined row.received).0) ≡ status_word (joined row.received).1
+  pub over : (job : ℕ) (row : RowState) → row_of_job job s.store.kept ≡ Some row
+      → EndsJob row.spec.attempts (joined row.received) → IsOver s.board.words job row.spec.attempts
+
 -- nothing is left to do: no turn waits or is out, and each emitted hook was delivered
 pub record IsFinished (s : CoreState) : Type 0 where
   pub waiting : s.turns.waiting ≡ []
@@ -87,3 +98,8 @@ pub record AllDone (s : CoreState) : Type 0 where
 abbrev pub LanesRun : List State → List State → Type 0
 LanesRun before after = (at : ℕ) (lane : State) → slice_get before at ≡ Some lane
     → (now : State) × (slice_get after at ≡ Some now) × LaneRuns lane now
+
+-- each lane keeps what operators rest on
+abbrev pub LanesHold : List State → List State → Type 0
+LanesHold before after = (at : ℕ) (lane now : State) → slice_get before at ≡ Some lane
+    → slice_get after at ≡ Some now → LaneHolds lane now

@@ -23,8 +23,8 @@ Does s event.Finish answers t = Finishes s t × (answers ≡ told.Idle ∷ [])
 Does s e answers t = DoesOne s e answers t
 
 -- where a take is cut short, its turn is out
-pub data TakeCut (s : CoreState) (t : CoreState) : Type 0 where
-  taken_out : (turn : Turn) → GoesOut s (taken.Turn turn) t → TakeCut s t
+abbrev pub TakeCut : CoreState → CoreState → Type 0
+TakeCut s t = (turn : Turn) × GoesOut s (taken.Turn turn) t
 
 -- some of the hooks from a place, from 0, on were delivered
 pub data DeliversSome : ℕ → CoreState → CoreState → Type 0 where

@@ -1,16 +1,20 @@
 //! Laws of the core: what its events are made of, what their parts keep, and what follows from it
 //! at every moment. (Our own.)
-ghost use Rattle.std.specs.Prelude.{ℕ, List, Option, IfSome};
+ghost use Rattle.std.specs.Prelude.{◌≡◌, ℕ, List, Option, Some, None, IfSome};
 ghost use Rattle.std.specs.List.{AllByRecursion};
 ghost use Rattle.hr_event.specs.declared.event.Event.{Event};
 ghost use Rattle.hr_event.specs.declared.task.TaskSpec.{TaskSpec};
 ghost use Rattle.hr_event.specs.declared.told.Told.{Told};
+ghost use Rattle.hr_board.specs.Over.{IsOver};
 ghost use Rattle.hr_board.specs.Plain.{IsLawful, new_board};
 ghost use Rattle.hr_line.specs.Run.{IsOpening};
 ghost use Rattle.hr_line.specs.State.{AreSound, Link, State};
 ghost use Rattle.hr_session.specs.Holds.{LaneHolds, LaneRuns};
 ghost use Rattle.hr_session.specs.Lane.{IsLaneSound};
-ghost use Rattle.hr_run.specs.Claims.{AllConfirmed, AllDone, IsFinished, LanesRun, OneEach, OneFinal};
+ghost use Rattle.hr_store.specs.Row.{RowState};
+ghost use Rattle.hr_store.specs.Store.{row_of_job};
+ghost use Rattle.hr_run.specs.Claims.{AllConfirmed, AllDone, IsFinished, LanesHold, LanesRun, OneEach, OneFinal, RowsTell};
+ghost use Rattle.hr_run.specs.Delivering.{Sweeps};
 ghost use Rattle.hr_run.specs.Finish.{Finishes};
 ghost use Rattle.hr_run.specs.Holds.{HasAttempts, Holds};
 ghost use Rattle.hr_run.specs.Part.{Part, Parts};
@@ -29,7 +33,7 @@ use hr_queue::{
     a_queue_agrees_with_its_board, done_jobs_were_over, gains_add_up, what_calls_gain,
 };
 use hr_store::{
-    a_taken_hook_is_put, hooks_reach_one_row, is_among_says_contains,
+    a_taken_hook_is_put, hooks_reach_one_row, is_among_says_contains, row_ends_its_job,
     sweep_drops_rows_that_are_over,
 };
 use hr_whole::{texts_stay_one, what_can_be_copied_is_copied};
@@ -103,17 +107,25 @@ pub fn events_are_parts()
 }
 
 /// What operators rest on: whatever the core opens with, and whatever events come, all of `Holds`
-/// holds then, also after an event that was cut short. Nothing is asked of the events, so it holds
-/// after every front of them.
+/// holds then, also after an event that was cut short; and each lane keeps its promise: tags that
+/// were put are complete and were read before, and each end has its evidence. Nothing is asked of the
+/// events, so it holds after every front of them.
 pub fn the_core_holds()
-    ensures { (lanes : List State) (others : List Link) (plan : Option (List TaskSpec)) (jobs : ℕ)
-        → (events : List Event) (said : List Told) (t : CoreState)
+    ensures state { (lanes : List State) (others : List Link) (plan : Option (List TaskSpec))
+        (jobs : ℕ) (events : List Event) (said : List Told) (t : CoreState)
         → AllByRecursion IsOpening lanes → IfSome plan (AllByRecursion HasAttempts)
         → IsSound (opening lanes others plan jobs)
         → Runs (opening lanes others plan jobs) events said t → Holds t }
+    ensures lanes { (lanes : List State) (others : List Link) (plan : Option (List TaskSpec))
+        (jobs : ℕ) (events : List Event) (said : List Told) (t : CoreState)
+        → AllByRecursion IsOpening lanes → IfSome plan (AllByRecursion HasAttempts)
+        → IsSound (opening lanes others plan jobs)
+        → Runs (opening lanes others plan jobs) events said t → LanesHold lanes t.lanes }
 {
     parts_keep();
     events_are_parts();
+    lanes_run();
+    lanes_keep_their_promise();
 }
 
 /// A law: after a finish each job that was made is over, each emitted hook was received where its
@@ -150,4 +162,22 @@ pub fn lanes_keep_their_promise()
     hooks_go_with_the_journal();
     texts_stay_one();
     what_can_be_copied_is_copied();
+}
+
+/// A law: what rows tell is what the words are: a row at a final status tells the word of its
+/// revision, and a row that ends its job is of one that is over.
+pub fn rows_tell_words()
+    ensures { (s : CoreState) → Holds s → RowsTell s }
+{
+    row_ends_its_job();
+}
+
+/// A law: a sweep drops only rows of jobs that are over.
+pub fn swept_jobs_are_over()
+    ensures { (s t : CoreState) (keep job : ℕ) (answer : Told) (row : RowState)
+        → Holds s → IsSound s → Sweeps s keep answer t → row_of_job job s.store.kept ≡ Some row
+        → row_of_job job t.store.kept ≡ None → IsOver s.board.words job row.spec.attempts }
+{
+    row_ends_its_job();
+    sweep_drops_rows_that_are_over();
 }
