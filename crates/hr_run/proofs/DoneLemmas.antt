@@ -1,12 +1,11 @@
 -- When nothing is left to do, each job is over, and its row says so.
-use Rattle.std.proofs.Common.{◌≡◌, ◌≢◌, ◌⊎◌, inl, inr, refl, sym, ap, subst, ◌∙◌, zero, suc, ℕ, ◌+◌, ◌-◌, ◌*◌, ◌<◌, ◌≤◌, Bool, true, false, cond, ◌&&◌, List, [], ◌∷◌, length, map, slice_get, arith}
+use Rattle.std.proofs.Common.{◌≡◌, ◌≢◌, inl, inr, refl, sym, ap, subst, ◌∙◌, zero, suc, ℕ, ◌+◌, ◌<◌, ◌≤◌, cond, ◌&&◌, List, [], ◌∷◌, map, slice_get, arith}
 use Rattle.std.proofs.lemmas.Bool.{cases_lt}
 use Rattle.std.proofs.lemmas.Bool.Decides.{eqb_tells, nat_tests}
-use Rattle.std.specs.Prelude.{Option, Some, None, nat_eq, nat_le}
-use Rattle.std.specs.List.{AllByRecursion, Contains, sum_by}
+use Rattle.std.specs.Prelude.{Option, Some, nat_eq, nat_le}
+use Rattle.std.specs.List.{AllByRecursion, Contains}
 use Rattle.hr_base.specs.Merge.{joined, told_by}
 use Rattle.hr_base.specs.Status.{code_of}
-use Rattle.hr_base.specs.declared.number.JobNo.{JobNo}
 use Rattle.hr_base.specs.declared.status.Hook.{Hook}
 use Rattle.hr_base.specs.declared.status.Status.{Status}
 use Rattle.hr_base.specs.declared.status.Status.TheVariants as status
@@ -26,7 +25,7 @@ use Rattle.hr_queue.specs.declared.answer.Taken.TheVariants as taken
 use Rattle.hr_queue.specs.declared.delayed.Delayed.{Delayed}
 use Rattle.hr_store.specs.Laws.{hooks_of_job}
 use Rattle.hr_run.specs.Claims.{AllDone, IsConfirmed, IsFinished, word_at}
-use Rattle.hr_run.specs.Holds.{CoveredBy, Holds, IsEmitted, IsReceived, IsRevision}
+use Rattle.hr_run.specs.Holds.{CoveredBy, Holds, IsEmitted, IsRevision}
 use Rattle.hr_run.specs.State.{CoreState, hook_at, hook_place, queued_from, spec_of, status_word}
 use Rattle.hr_run.specs.Weight.{at, final_weight, one_if}
 use Rattle.hr_run.proofs.JoinLemmas.{Under, above_code, above_lower, best_is, covers_final, covers_zero, final_code, pair_is, pending_under, told_there, word_status}
@@ -126,7 +125,9 @@ may_open s o place m =
     let within = m.within in
     let few = m.few in
     record {
-      job = m.job.job.0; rev = m.rev; is = m.is;
+      job = m.job.job.0;
+      rev = m.rev;
+      is = m.is;
       revision = record {
         spec = w.spec;
         copies = made_spec s.made m.job.job.0 w.place w.spec w.number w.there;
@@ -209,9 +210,10 @@ over_at s o job spec e row (inr c) ends = absurd (
 
 under_row : (s : CoreState) (job rev : ℕ) (st : Status) (row : ℕ × Status) → IsOverAt s job row → rev ≤ 3
     → CoveredBy st (word_at s.board (place_of job rev)) → Under row (rev, st)
-under_row s job rev st row o small c = record { under = elim (cases_lt rev row.0) [
-  | inl low ↦ inl (above_lower row.0 (code_of row.1) rev (code_of st) low)
-  | inr high ↦ elim (eqb_tells rev row.0) [
+under_row s job rev st row o small c = record {
+  under = elim (cases_lt rev row.0) [
+    | inl low ↦ inl (above_lower row.0 (code_of row.1) rev (code_of st) low)
+    | inr high ↦ elim (eqb_tells rev row.0) [
       | inl e ↦ (let W : ℕ → ℕ = λ r. word_at s.board (place_of job r) in
           let w = ap W e.1 ∙ o.word in
           let C : ℕ → Type 0 = λ v. CoveredBy st v in
@@ -224,7 +226,8 @@ under_row s job rev st row o small c = record { under = elim (cases_lt rev row.0
           let C : ℕ → Type 0 = λ v. CoveredBy st v in
           covers_zero st (subst C z c))
     ]
-] }
+  ];
+}
 
 under_all : (s : CoreState) (job : ℕ) (hs : List Hook) (row : ℕ × Status) → IsOverAt s job row
     → ((h : Hook) → Contains hs h → IsConfirmed s.board job h) → AllByRecursion (Under row) (map told_by hs)
@@ -245,7 +248,7 @@ module _ (laws : OverLaws) (s : CoreState) (o : Holds s) (f : IsFinished s) wher
       let one : Queued = record { job = record { 0 = job }; attempts = spec.attempts } in
       let there = subst (λ (qs : List Queued). Contains qs one) (sym o.added) (spec_queued s.made job spec e) in
       let was = laws.idle s.now s.turns s.turns (view_of s.board) one o.whole o.agrees
-        (refl, none_due s.now s.turns.delayed f.delayed, f.waiting, (f.delayed, f.out)) there in
+      (refl, none_due s.now s.turns.delayed f.delayed, f.waiting, (f.delayed, f.out)) there in
       laws.over s.board.words s.board.past job spec.attempts (few_each s.made job spec o.few e) o.lawful was
 
   all_heard : (k : ℕ) (h : Hook) (heard : List Hook) → hook_at s.hooks k ≡ Some h → hooks_of_job h.job.0 s.store.kept ≡ Some heard
@@ -276,11 +279,11 @@ module _ (laws : OverLaws) (s : CoreState) (o : Holds s) (f : IsFinished s) wher
       let st = word_status (k.hook).status row.1 (omega (arith, kw, w, fin)) (k.at_word ∙ w) in
       let c = k.there in
       let there = all_heard (suc c.0) k.hook heard (get_at s.hooks c.0 k.hook c.1 c.2)
-        (ap (λ (n : ℕ). hooks_of_job n s.store.kept) same.0 ∙ r) in
+      (ap (λ (n : ℕ). hooks_of_job n s.store.kept) same.0 ∙ r) in
       let T : ℕ × Status → Type 0 = λ v. Contains (map told_by heard) v in
       let top = subst T (pair_is (k.hook).rev row.0 (k.hook).status row.1 same.1 st) (told_there heard k.hook there) in
       let is = best_is row (0, status.Pending) (map told_by heard) (pending_under row over.final)
-        (under_all s job heard row over (λ h m. all_confirmed s o job heard h r m)) top in
+      (under_all s job heard row over (λ h m. all_confirmed s o job heard h r m)) top in
       subst (λ (v : ℕ × Status). IsCurrent s.board.words job spec.attempts v) (sym is) is_over.current
 
   pub all_done : AllDone s

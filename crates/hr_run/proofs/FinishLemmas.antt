@@ -1,8 +1,8 @@
 -- A finish is made of parts, and leaves nothing to do; so is what memory cut short, and so are
 -- events one after the other.
-use Rattle.std.proofs.Common.{◌≡◌, ◌⊎◌, inl, inr, refl, sym, ap, subst, ◌∙◌, zero, suc, ℕ, ◌+◌, ◌<◌, ◌≤◌, Bool, true, false, List, [], ◌∷◌, ◌++◌, length, slice_get, arith}
+use Rattle.std.proofs.Common.{◌≡◌, inl, inr, refl, sym, ap, subst, ◌∙◌, zero, suc, ℕ, ◌<◌, ◌≤◌, Bool, true, false, List, [], ◌∷◌, length, slice_get, arith}
 use Rattle.std.proofs.lemmas.Bool.{cases_lt}
-use Rattle.std.specs.Prelude.{Option, Some, None, unwrap_or}
+use Rattle.std.specs.Prelude.{Some, unwrap_or}
 use Rattle.hr_base.specs.declared.number.JobNo.{JobNo}
 use Rattle.hr_base.specs.declared.status.Hook.{Hook}
 use Rattle.hr_event.specs.declared.event.Event.{Event}
@@ -14,11 +14,10 @@ use Rattle.hr_run.specs.Claims.{IsFinished}
 use Rattle.hr_run.specs.Finish.{DeliversFrom, Finishes, Rounds, RunsRounds, RunsTurn, StepsOut}
 use Rattle.hr_run.specs.Run.{Cut, DeliversSome, Does, Runs, StepsSome, TakeCut}
 use Rattle.hr_run.specs.Holds.{Holds}
-use Rattle.hr_run.specs.Part.{Part, Parts}
+use Rattle.hr_run.specs.Part.{Parts}
 use Rattle.hr_run.specs.Part.Parts.{next, none}
 use Rattle.hr_run.specs.Sound.{IsSound}
 use Rattle.hr_run.specs.State.{CoreState, hook_at, was_delivered, with_mark}
-use Rattle.hr_run.specs.Delivering.{Delivers}
 use Rattle.hr_run.proofs.KeepsLemmas.{OtherLaws, keeps_parts}
 use Rattle.hr_run.proofs.LaneLemmas.{LaneLaws}
 use Rattle.hr_run.proofs.ListLemmas.{get_within}
@@ -169,7 +168,9 @@ delivered_from place s _ (DeliversFrom.all _ _ h) =
 delivered_from place s t (DeliversFrom.again _ _ _ e rest) =
     let r = delivered_from (suc place) s t rest in
     record {
-      turns = r.turns; hooks = r.hooks; stay = r.stay;
+      turns = r.turns;
+      hooks = r.hooks;
+      stay = r.stay;
       from = λ at a b. elim (cases_lt place at) [
         | inl more ↦ r.from at (omega (arith, more)) b
         | inr same ↦ at_place t.delivered place at (r.stay (suc place) e) (omega (arith, a, same))

@@ -1,5 +1,5 @@
 -- The join of hooks that are all below one of them is that one.
-use Rattle.std.proofs.Common.{◌≡◌, ◌≢◌, ◌⊎◌, inl, inr, refl, sym, ap, subst, ◌∙◌, zero, suc, ℕ, ◌+◌, ◌<◌, ◌≤◌, Bool, true, false, cond, ◌&&◌, ◌||◌, List, [], ◌∷◌, map, arith}
+use Rattle.std.proofs.Common.{◌≡◌, ◌≢◌, ◌⊎◌, inl, inr, refl, sym, ap, subst, ◌∙◌, zero, suc, ℕ, ◌<◌, ◌≤◌, Bool, true, false, cond, ◌&&◌, ◌||◌, List, [], ◌∷◌, map, arith}
 use Rattle.std.proofs.lemmas.Bool.{cases_lt}
 use Rattle.std.proofs.lemmas.Bool.Decides.{nat_tests}
 use Rattle.std.specs.Prelude.{nat_eq, nat_lt}
@@ -42,23 +42,23 @@ above_one top p r false a b = a
 best_other : (top p q r : ℕ × Status) (qs : List (ℕ × Status)) → is_above top p ≡ true
     → (is_above top r ≡ true) × (q ≢ top) × (Contains qs top → ⊥) → (b : Bool) → is_above r p ≡ b → Best top p (q ∷ qs) (greater_of p r)
 best_other top p q r qs above other b e =
-    let none : Contains (q ∷ qs) top → ⊥ = λ c. elim (there_cases q top qs c) [ | inl k ↦ other.1 k | inr k ↦ other.2 k ] in
+    let none : Contains (q ∷ qs) top → ⊥ = λ c. elim (there_cases q top qs c) [ inl k ↦ other.1 k | inr k ↦ other.2 k ] in
     let A : ℕ × Status → Type 0 = λ v. is_above top v ≡ true in
     inr (subst A (sym (pick p r b e)) (above_one top p r b above other.0), not_top top p above, none)
 
 best_more : (top p q r : ℕ × Status) (qs : List (ℕ × Status)) → Under top p → Best top q qs r → Best top p (q ∷ qs) (greater_of p r)
 best_more top p q r qs h b = elim b [
   | inl is ↦ elim h.under [
-      | inl above ↦ (let A : ℕ × Status → Type 0 = λ v. is_above v p ≡ true in inl (pick p r true (subst A (sym is) above) ∙ is))
-      | inr same ↦ (let A : ℕ × Status → ℕ × Status → Type 0 = λ v w. is_above v w ≡ false in
-          let B : ℕ × Status → Type 0 = λ v. A v p in let C : ℕ × Status → Type 0 = λ v. A top v in
-          inl (pick p r false (subst B (sym is) (subst C (sym same) (above_self top.0 (code_of top.1)))) ∙ same))
-    ]
+    | inl above ↦ (let A : ℕ × Status → Type 0 = λ v. is_above v p ≡ true in inl (pick p r true (subst A (sym is) above) ∙ is))
+    | inr same ↦ (let A : ℕ × Status → ℕ × Status → Type 0 = λ v w. is_above v w ≡ false in
+        let B : ℕ × Status → Type 0 = λ v. A v p in let C : ℕ × Status → Type 0 = λ v. A top v in
+        inl (pick p r false (subst B (sym is) (subst C (sym same) (above_self top.0 (code_of top.1)))) ∙ same))
+  ]
   | inr other ↦ elim h.under [
-      | inl above ↦ best_other top p q r qs above other (is_above r p) refl
-      | inr same ↦ (let A : ℕ × Status → Type 0 = λ v. is_above r v ≡ false in
-          inl (pick p r false (subst A (sym same) (above_not top.0 (code_of top.1) r.0 (code_of r.1) other.0)) ∙ same))
-    ]
+    | inl above ↦ best_other top p q r qs above other (is_above r p) refl
+    | inr same ↦ (let A : ℕ × Status → Type 0 = λ v. is_above r v ≡ false in
+        inl (pick p r false (subst A (sym same) (above_not top.0 (code_of top.1) r.0 (code_of r.1) other.0)) ∙ same))
+  ]
 ]
 
 best : (top p : ℕ × Status) (qs : List (ℕ × Status)) → Under top p → AllByRecursion (Under top) qs → Best top p qs (first_greatest p qs)
@@ -122,10 +122,12 @@ pub pair_is : (a b : ℕ) (p q : Status) → a ≡ b → p ≡ q → pair a p �
 pair_is a b p q e f = let F : ℕ → ℕ × Status = λ v. (v, p) in let G : Status → ℕ × Status = λ v. (b, v) in ap F e ∙ ap G f
 
 pub pending_under : (row : ℕ × Status) → 4 ≤ status_word row.1 → Under row (0, status.Pending)
-pending_under row f = record { under = elim (cases_lt 0 row.0) [
-  | inl l ↦ inl (above_lower row.0 (code_of row.1) 0 0 l)
-  | inr l ↦ inl (above_code row.0 (code_of row.1) 0 0 (omega (arith, l)) (omega (arith, final_code row.1 f)))
-] }
+pending_under row f = record {
+  under = elim (cases_lt 0 row.0) [
+    | inl l ↦ inl (above_lower row.0 (code_of row.1) 0 0 l)
+    | inr l ↦ inl (above_code row.0 (code_of row.1) 0 0 (omega (arith, l)) (omega (arith, final_code row.1 f)))
+  ];
+}
 
 pub told_there : (hs : List Hook) (h : Hook) → Contains hs h → Contains (map told_by hs) (told_by h)
 told_there [] h c = absurd (omega (arith, c.1))

@@ -1,14 +1,12 @@
 -- Each part keeps what holds of the core.
-use Rattle.std.proofs.Common.{◌≡◌, ◌≢◌, ◌⊎◌, inl, inr, refl, sym, ap, subst, ◌∙◌, zero, suc, ℕ, ◌+◌, ◌<◌, ◌≤◌, Bool, true, false, ◌&&◌, List, [], ◌∷◌, ◌++◌, length, slice_get, set, arith, length-append}
-use Rattle.std.proofs.lemmas.Bool.{cases_lt}
+use Rattle.std.proofs.Common.{◌≡◌, ◌⊎◌, inl, inr, refl, sym, ap, subst, ◌∙◌, suc, ℕ, ◌+◌, ◌<◌, ◌≤◌, Bool, true, false, ◌&&◌, List, [], ◌∷◌, ◌++◌, length, arith, length-append}
 use Rattle.std.proofs.lemmas.Bool.Decides.{eqb_tells, nat_tests}
 use Rattle.std.proofs.lemmas.List.{append-nil}
 use Rattle.std.proofs.lemmas.List.Sums.{sum_by-append, sum_by_push}
 use Rattle.std.specs.Prelude.{Option, Some, None, nat_le, nat_lt, IsTrue, slice_index}
 use Rattle.std.specs.Option.{option_map}
 use Rattle.std.specs.List.{AllByRecursion, Contains, sum_by}
-use Rattle.hr_base.specs.Status.{Covers, word_of}
-use Rattle.hr_base.specs.declared.number.JobNo.{JobNo}
+use Rattle.hr_base.specs.Status.{word_of}
 use Rattle.hr_base.specs.declared.status.Hook.{Hook}
 use Rattle.hr_base.specs.declared.status.Mark.{Mark}
 use Rattle.hr_event.specs.declared.task.TaskSpec.{TaskSpec}
@@ -23,20 +21,20 @@ use Rattle.hr_queue.specs.View as queue
 use Rattle.hr_queue.specs.declared.answer.Queued.{Queued}
 use Rattle.hr_store.specs.Creating.{next_exec}
 use Rattle.hr_store.specs.Execution.{ExecState}
-use Rattle.hr_store.specs.Laws.{PutsHook, TakenIsPut, hooks_of_job}
-use Rattle.hr_store.specs.Receiving.{FindsWord, LeavesHook, ReceivesHook, TakesHook, was_made}
+use Rattle.hr_store.specs.Laws.{TakenIsPut, hooks_of_job}
+use Rattle.hr_store.specs.Receiving.{FindsWord, ReceivesHook, TakesHook, was_made}
 use Rattle.hr_store.specs.Row.{RowState, is_among, with_hook}
 use Rattle.hr_store.specs.Store.{StoreState, execs_hearing, row_hearing, row_of_job}
 use Rattle.hr_run.specs.Holds.{CoveredBy, HasAttempts, Holds, IsCovered, IsEmitted, IsReceived, IsServing}
 use Rattle.hr_run.specs.Part.{Acts, Makes, Marks, Part, Parts, Passes, Receives, Stops, Turns, Works, stop_hook}
 use Rattle.hr_run.specs.Part.Part.{makes, passes, receives, stops, turns, works}
 use Rattle.hr_run.specs.Part.Parts.{next, none}
-use Rattle.hr_run.specs.State.{CoreState, hook_at, hook_place, queued_from, spec_of, status_word, was_delivered, with_mark}
+use Rattle.hr_run.specs.State.{CoreState, hook_at, hook_place, queued_from, spec_of, status_word, was_delivered}
 use Rattle.hr_run.specs.Weight.{final_weight, lane_weight, stop_weight}
-use Rattle.hr_run.proofs.LaneLemmas.{LaneLaws, Worked, noted_on, quiet_acts, still_acts, stopping_acts, worked_so}
-use Rattle.hr_run.proofs.ListLemmas.{all_append, all_at, all_member, all_set, all_then, get_within, sum_set}
+use Rattle.hr_run.proofs.LaneLemmas.{LaneLaws, noted_on, quiet_acts, still_acts, stopping_acts, worked_so}
+use Rattle.hr_run.proofs.ListLemmas.{all_append, all_at, all_set, all_then, sum_set}
 use Rattle.hr_run.proofs.MarkLemmas.{covered_still, covers_itself, covers_later, covers_mark, emitted_more, emitted_still, few_each, hook_all, hook_more, last_noted, mark_covers, marked, noted_more, spec_more, spec_within, sum_finals, task_more}
-use Rattle.hr_run.proofs.RowLemmas.{Hears, hearing_row, heard_row, hears, new_row, new_spec, queued_more, row_heard, row_pushed}
+use Rattle.hr_run.proofs.RowLemmas.{hearing_row, heard_row, hears, new_row, new_spec, queued_more, row_heard, row_pushed}
 
 -- the laws of the queue and of the store that are used
 pub record OtherLaws : Type 0 where
@@ -52,13 +50,19 @@ pub record OtherLaws : Type 0 where
 serving_still : (made : List TaskSpec) (b c : Plain) → Keeps (view_of b) (view_of c) → (lane : State)
     → IsServing made (view_of b) lane → IsServing made (view_of c) lane
 serving_still made b c kept lane was = record {
-  orderly = was.orderly; ends = was.ends; hooks = was.hooks; tasks = was.tasks; noted = noted_on lane.admitted (view_of b) (view_of c) kept was.noted;
+  orderly = was.orderly;
+  ends = was.ends;
+  hooks = was.hooks;
+  tasks = was.tasks;
+  noted = noted_on lane.admitted (view_of b) (view_of c) kept was.noted;
 }
 
 serving_more : (made more : List TaskSpec) (b c : Plain) → Keeps (view_of b) (view_of c) → (lane : State)
     → IsServing made (view_of b) lane → IsServing (made ++ more) (view_of c) lane
 serving_more made more b c kept lane was = record {
-  orderly = was.orderly; ends = was.ends; hooks = was.hooks;
+  orderly = was.orderly;
+  ends = was.ends;
+  hooks = was.hooks;
   tasks = all_then _ _ (task_more made more) lane.admitted was.tasks;
   noted = noted_on lane.admitted (view_of b) (view_of c) kept was.noted;
 }
@@ -96,7 +100,11 @@ module _ (laws : OtherLaws) (s t : CoreState) (o : Holds s) where
         whole = h.whole;
         agrees = laws.calls s.turns t.turns (view_of s.board) (view_of t.board) [] o.agrees h.gains;
         added = h.gains.added ∙ append-nil s.turns.added ∙ o.added;
-        numbered = o.numbered; fits = fits_same s t o kept; few = o.few; planned = o.planned; rows = o.rows;
+        numbered = o.numbered;
+        fits = fits_same s t o kept;
+        few = o.few;
+        planned = o.planned;
+        rows = o.rows;
         lanes = lanes_still s t o kept;
         shares = o.shares;
         finals = λ f. ap (sum_by f) same ∙ o.finals f;
@@ -123,14 +131,19 @@ module _ (laws : OtherLaws) (s t : CoreState) (o : Holds s) where
         lawful = h.lawful;
         whole = o.whole;
         agrees = laws.others s.turns (view_of s.board) (view_of t.board) o.agrees acts.kept acts.opens;
-        added = o.added; numbered = o.numbered; fits = fits_same s t o acts.kept; few = o.few; planned = o.planned; rows = o.rows;
+        added = o.added;
+        numbered = o.numbered;
+        fits = fits_same s t o acts.kept;
+        few = o.few;
+        planned = o.planned;
+        rows = o.rows;
         lanes = lanes_still s t o acts.kept;
         shares = λ g. let a = more g in let b = more (stop_weight g) in let c = o.shares g in omega (arith, a, b, c);
         finals = λ f.
-          let a = more (final_weight f) in
-          let b = sum_finals s.board t.board ((place, 4) ∷ []) acts.finals f in
-          let c = o.finals f in
-          omega (arith, a, b, c);
+            let a = more (final_weight f) in
+            let b = sum_finals s.board t.board ((place, 4) ∷ []) acts.finals f in
+            let c = o.finals f in
+            omega (arith, a, b, c);
         emitted = subst E (sym h.hooks) (all_append (IsEmitted s.made t.board.past.notes) s.hooks (hook ∷ []) (emitted_all s t o acts.kept) (is_new, tt));
         received = λ job heard e. covered_all s t o acts.kept job heard (o.received job heard e);
         delivered = λ k e. subst (λ (hs : List Hook). R hs k) (sym h.hooks) (delivered_more s.hooks (hook ∷ []) s.store k (o.delivered k e));
@@ -149,7 +162,8 @@ module _ (laws : OtherLaws) (s t : CoreState) (o : Holds s) where
         added = o.added;
         numbered = h.jobs ∙ o.numbered;
         fits = fits_still s t o kept h.limit;
-        few = o.few; planned = o.planned;
+        few = o.few;
+        planned = o.planned;
         rows = λ job row e. o.rows job row (h.rows job row e);
         lanes = lanes_still s t o kept;
         shares = o.shares;
@@ -157,7 +171,7 @@ module _ (laws : OtherLaws) (s t : CoreState) (o : Holds s) where
         emitted = emitted_all s t o kept;
         received = λ job heard e. covered_all s t o kept job heard (o.received job heard (heard_before job heard e));
         delivered = λ k e. (let d = o.delivered k e in
-          record { hook = d.hook; is = d.is; received = λ heard q. d.received heard (heard_before d.hook.job.0 heard q) });
+            record { hook = d.hook; is = d.is; received = λ heard q. d.received heard (heard_before d.hook.job.0 heard q) });
       })
 
   pub keeps_works : LaneLaws → Works s t → Holds t
@@ -174,26 +188,31 @@ module _ (laws : OtherLaws) (s t : CoreState) (o : Holds s) where
         lawful = h.lawful;
         whole = o.whole;
         agrees = laws.others s.turns (view_of s.board) (view_of t.board) o.agrees kept w.acts.opens;
-        added = o.added; numbered = o.numbered; fits = fits_same s t o kept; few = o.few; planned = o.planned; rows = o.rows;
+        added = o.added;
+        numbered = o.numbered;
+        fits = fits_same s t o kept;
+        few = o.few;
+        planned = o.planned;
+        rows = o.rows;
         lanes = subst L (sym h.calls.lanes)
-          (all_set (IsServing s.made (view_of t.board)) s.lanes h.at h.worked (lanes_still s t o kept) w.serving);
+            (all_set (IsServing s.made (view_of t.board)) s.lanes h.at h.worked (lanes_still s t o kept) w.serving);
         shares = λ g.
-          let a = more g in
-          let b = more (stop_weight g) in
-          let c = o.shares g in
-          let l = ap (sum_by (lane_weight g)) h.calls.lanes in
-          let m = sum_set (lane_weight g) s.lanes h.at h.lane h.worked h.calls.there in
-          let n = ap (sum_by g) h.calls.gave ∙ sum_by-append g h.calls.more h.lane.hooks in
-          let u = w.unstopped g in
-          omega (arith, a, b, c, l, m, n, u);
+            let a = more g in
+            let b = more (stop_weight g) in
+            let c = o.shares g in
+            let l = ap (sum_by (lane_weight g)) h.calls.lanes in
+            let m = sum_set (lane_weight g) s.lanes h.at h.lane h.worked h.calls.there in
+            let n = ap (sum_by g) h.calls.gave ∙ sum_by-append g h.calls.more h.lane.hooks in
+            let u = w.unstopped g in
+            omega (arith, a, b, c, l, m, n, u);
         finals = λ f.
-          let a = more (final_weight f) in
-          let b = sum_finals s.board t.board w.ended w.acts.finals f in
-          let c = o.finals f in
-          let d = w.weights f in
-          omega (arith, a, b, c, d);
+            let a = more (final_weight f) in
+            let b = sum_finals s.board t.board w.ended w.acts.finals f in
+            let c = o.finals f in
+            let d = w.weights f in
+            omega (arith, a, b, c, d);
         emitted = subst E (sym h.calls.hooks)
-          (all_append (IsEmitted s.made t.board.past.notes) s.hooks h.calls.more (emitted_all s t o kept) w.emitted);
+            (all_append (IsEmitted s.made t.board.past.notes) s.hooks h.calls.more (emitted_all s t o kept) w.emitted);
         received = λ job heard e. covered_all s t o kept job heard (o.received job heard e);
         delivered = λ k e. subst (λ (hs : List Hook). R hs k) (sym h.calls.hooks) (delivered_more s.hooks h.calls.more s.store k (o.delivered k e));
       })
@@ -219,9 +238,16 @@ module _ (laws : OtherLaws) (s t : CoreState) (o : Holds s) where
               (let n = new_row s.store.jobs job h.specs row new in
               let at = n.numbered in
               let number = o.numbered in
-              inr (new_spec s.made h.specs job row (record {
-                place = n.place; numbered = omega (arith, at, number); copies = n.copies; none = n.none;
-              }), omega (arith, at, number), n.none))
+              inr (
+                new_spec s.made h.specs job row (record {
+                  place = n.place;
+                  numbered = omega (arith, at, number);
+                  copies = n.copies;
+                  none = n.none;
+                }),
+                omega (arith, at, number),
+                n.none,
+              ))
         ]
 
     pub keeps_makes : Holds t
@@ -238,9 +264,9 @@ module _ (laws : OtherLaws) (s t : CoreState) (o : Holds s) where
           whole = h.whole;
           agrees = laws.calls s.turns t.turns (view_of s.board) (view_of t.board) (queued_from (length s.made) h.specs) o.agrees h.gains;
           added = h.gains.added ∙ ap (λ (q : List Queued). q ++ queued_from (length s.made) h.specs) o.added
-            ∙ sym (queued_more 0 (length s.made) s.made h.specs (omega arith)) ∙ ap (queued_from 0) (sym h.made);
+              ∙ sym (queued_more 0 (length s.made) s.made h.specs (omega arith)) ∙ ap (queued_from 0) (sym h.made);
           numbered = jobs_is ∙ ap (λ (n : ℕ). n + length h.specs) o.numbered ∙ sym (length-append s.made h.specs)
-            ∙ ap (λ (made : List TaskSpec). length made) (sym h.made);
+              ∙ ap (λ (made : List TaskSpec). length made) (sym h.made);
           fits = fits_still s t o kept (ap (λ (x : StoreState). x.limit) h.created.after_is);
           few = subst F (sym h.made) (all_append HasAttempts s.made h.specs o.few h.few);
           planned = o.planned;
@@ -249,25 +275,29 @@ module _ (laws : OtherLaws) (s t : CoreState) (o : Holds s) where
             | inr new ↦ new.0
           ]);
           lanes = subst M (sym h.made) (all_then (IsServing s.made (view_of s.board)) (IsServing (s.made ++ h.specs) (view_of t.board))
-            (serving_more s.made h.specs s.board t.board kept) s.lanes o.lanes);
+              (serving_more s.made h.specs s.board t.board kept) s.lanes o.lanes);
           shares = o.shares;
           finals = λ f. ap (sum_by f) same ∙ o.finals f;
           emitted = subst E (sym h.made) (all_then (IsEmitted s.made s.board.past.notes) (IsEmitted (s.made ++ h.specs) t.board.past.notes)
-            (emitted_more s.board t.board kept s.made h.specs) s.hooks o.emitted);
+              (emitted_more s.board t.board kept s.made h.specs) s.hooks o.emitted);
           received = λ job heard e. (let r = heard_row (row_of_job job t.store.kept) heard e in
-            elim (made_row job r.0 r.1) [
-              | inl old ↦ covered_all s t o kept job heard (o.received job heard (row_heard job s.store.kept r.0 old ∙ ap Some r.2))
-              | inr new ↦ subst (λ (hs : List Hook). N hs job) (sym (sym r.2 ∙ new.2)) tt
-            ]);
+              elim (made_row job r.0 r.1) [
+                | inl old ↦ covered_all s t o kept job heard (o.received job heard (row_heard job s.store.kept r.0 old ∙ ap Some r.2))
+                | inr new ↦ subst (λ (hs : List Hook). N hs job) (sym (sym r.2 ∙ new.2)) tt
+              ]);
           delivered = λ k e. (let d = o.delivered k e in
-            let m = hook_all (IsEmitted s.made s.board.past.notes) s.hooks k d.hook o.emitted d.is in
-            let w = spec_within s.made d.hook.job.0 m.revision.spec m.revision.copies in
-            record { hook = d.hook; is = d.is; received = λ heard q.
-              (let r = heard_row (row_of_job d.hook.job.0 t.store.kept) heard q in
-              elim (made_row d.hook.job.0 r.0 r.1) [
-                | inl old ↦ d.received heard (row_heard d.hook.job.0 s.store.kept r.0 old ∙ ap Some r.2)
-                | inr new ↦ absurd (omega (arith, new.1, w.1))
-              ]) });
+              let m = hook_all (IsEmitted s.made s.board.past.notes) s.hooks k d.hook o.emitted d.is in
+              let w = spec_within s.made d.hook.job.0 m.revision.spec m.revision.copies in
+              record {
+                hook = d.hook;
+                is = d.is;
+                received = λ heard q.
+                    (let r = heard_row (row_of_job d.hook.job.0 t.store.kept) heard q in
+                    elim (made_row d.hook.job.0 r.0 r.1) [
+                      | inl old ↦ d.received heard (row_heard d.hook.job.0 s.store.kept r.0 old ∙ ap Some r.2)
+                      | inr new ↦ absurd (omega (arith, new.1, w.1))
+                    ]);
+              });
         })
 
 -- ---- the store is given a hook
@@ -317,9 +347,9 @@ module _ (laws : OtherLaws) (s t : CoreState) (o : Holds s) (hook : Hook) (lawfu
       let k = hears put.old hook (laws.among put.old hook) in
       let kept : t.store.kept ≡ execs_hearing hook s.store.kept = ap (λ (x : StoreState). x.kept) h.after_is in
       let now = last_noted t.board.past.notes s.board.past.notes (hook_place hook) (word_of h.mark)
-        (ap (λ (v : board.View). v.notes) h.found.after_is) in
+      (ap (λ (v : board.View). v.notes) h.found.after_is) in
       let one : IsCovered t.board.past.notes hook.job.0 hook =
-        record { of_job = refl; small = small; word = word_of h.mark; noted = now; covers = covers_mark h.mark hook.status h.covered } in
+      record { of_job = refl; small = small; word = word_of h.mark; noted = now; covers = covers_mark h.mark hook.status h.covered } in
       let A : List Hook → Type 0 = λ hs. AllByRecursion (IsCovered t.board.past.notes hook.job.0) hs in
       let old_covered = covered_all s t o acts.kept hook.job.0 put.old (o.received hook.job.0 put.old put.before) in
       let all : A (with_hook put.old hook) = elim k.put [
@@ -333,8 +363,8 @@ module _ (laws : OtherLaws) (s t : CoreState) (o : Holds s) (hook : Hook) (lawfu
         jobs = ap (λ (x : StoreState). x.jobs) h.after_is;
         limit = ap (λ (x : StoreState). x.limit) h.after_is;
         rows = λ job row e. (let r = hearing_row hook (row_of_job job s.store.kept) row
-          (sym (laws.reach hook job s.store.kept) ∙ sym (ap (row_of_job job) kept) ∙ e) in
-          o.rows job r.0 r.1 ∙ ap Some r.2);
+            (sym (laws.reach hook job s.store.kept) ∙ sym (ap (row_of_job job) kept) ∙ e) in
+            o.rows job r.0 r.1 ∙ ap Some r.2);
         covered = λ job heard e. elim (eqb_tells job hook.job.0) [
           | inl q ↦ (let C : ℕ → Type 0 = λ j. hooks_of_job j t.store.kept ≡ Some heard → AllByRecursion (IsCovered t.board.past.notes j) heard in
               subst C (sym q.1) (λ e2. subst A (here_is heard e2) all) e)
@@ -342,7 +372,7 @@ module _ (laws : OtherLaws) (s t : CoreState) (o : Holds s) (hook : Hook) (lawfu
         ];
         stay = λ job x heard e has. elim (eqb_tells job hook.job.0) [
           | inl q ↦ (let C : ℕ → Type 0 = λ j. hooks_of_job j t.store.kept ≡ Some heard
-                → ((old : List Hook) → hooks_of_job j s.store.kept ≡ Some old → Contains old x) → Contains heard x in
+              → ((old : List Hook) → hooks_of_job j s.store.kept ≡ Some old → Contains old x) → Contains heard x in
               subst C (sym q.1) (λ e2 has2. subst (λ (hs : List Hook). Contains hs x) (here_is heard e2) (k.stay x (has2 put.old put.before))) e has)
           | inr q ↦ has heard (sym (put.elsewhere job q.1) ∙ e)
         ];
@@ -380,7 +410,9 @@ emitted_covered s t hook kept lawful e =
 
 still_received : (s t : CoreState) (hook : Hook) → Heard s t hook → (k : ℕ) → IsReceived s.hooks s.store k → IsReceived s.hooks t.store k
 still_received s t hook h k d = record {
-  hook = d.hook; is = d.is; received = λ heard e. h.stay d.hook.job.0 d.hook heard e d.received;
+  hook = d.hook;
+  is = d.is;
+  received = λ heard e. h.stay d.hook.job.0 d.hook heard e d.received;
 }
 
 delivered_after : (s t : CoreState) (hook : Hook) (place : Option ℕ) → Holds s → Heard s t hook → IsLawful t.board.words t.board.past

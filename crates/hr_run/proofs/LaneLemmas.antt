@@ -1,14 +1,13 @@
 -- What one call of a lane does to the core: the words that it notes and ends, the hooks that it
 -- gives, and that the lane stays in order.
-use Rattle.std.proofs.Common.{◌≡◌, ◌⊎◌, inl, inr, refl, sym, ap, subst, ◌∙◌, ℕ, ◌+◌, ◌<◌, ◌≤◌, Bool, true, false, ◌&&◌, List, [], ◌∷◌, ◌++◌, length, arith}
+use Rattle.std.proofs.Common.{◌≡◌, inl, inr, refl, sym, ap, subst, ◌∙◌, ℕ, Bool, true, false, ◌&&◌, List, [], ◌∷◌, ◌++◌}
 use Rattle.std.proofs.lemmas.Bool.{eqb-true}
 use Rattle.std.proofs.lemmas.List.{append-nil, append_assoc, append_cancel_right}
-use Rattle.std.specs.Prelude.{Option, Some, None, IfSome, IsSome, Result, Ok, Err, if◌then◌else◌, nat_eq}
+use Rattle.std.specs.Prelude.{Option, Some, None, IfSome, IsSome, Ok, if◌then◌else◌, nat_eq}
 use Rattle.std.specs.List.{AllByRecursion, sum_by}
 use Rattle.hr_base.specs.Status.{word_of}
 use Rattle.hr_base.specs.declared.number.JobNo.{JobNo}
 use Rattle.hr_base.specs.declared.status.Hook.{Hook}
-use Rattle.hr_base.specs.declared.status.Mark.{Mark}
 use Rattle.hr_base.specs.declared.status.Mark.TheVariants.{At}
 use Rattle.hr_base.specs.declared.status.Status.{Status}
 use Rattle.hr_base.specs.declared.status.Status.TheVariants.{Running}
@@ -22,7 +21,7 @@ use Rattle.hr_line.specs.Hooks.{HooksTell}
 use Rattle.hr_line.specs.Orderly.{IsHeldAs, IsNew, IsOrderly, admitted_at}
 use Rattle.hr_line.specs.Run.{OthersStay}
 use Rattle.hr_line.specs.State.{State, held_at}
-use Rattle.hr_line.specs.Step.{ComesToEnd, Drops, Ends, GoesOn, Step, end_status, hook_of}
+use Rattle.hr_line.specs.Step.{ComesToEnd, Ends, Step, end_status, hook_of}
 use Rattle.hr_line.specs.declared.answer.Admit.{Admit}
 use Rattle.hr_line.specs.declared.answer.Admit.TheVariants as admit
 use Rattle.hr_line.specs.declared.answer.Stepped.{Stepped}
@@ -30,13 +29,12 @@ use Rattle.hr_line.specs.declared.answer.Stepped.TheVariants as stepped
 use Rattle.hr_line.specs.declared.held.Admitted.{Admitted}
 use Rattle.hr_line.specs.declared.held.Held.{Held}
 use Rattle.hr_lane.specs.Admission.{AdmitsWord, AreNoted, waiting}
-use Rattle.hr_lane.specs.Word.{FindsMark, LooksAndCloses, OfWord, Steps}
+use Rattle.hr_lane.specs.Word.{LooksAndCloses, OfWord, Steps}
 use Rattle.hr_run.specs.Holds.{IsEmitted, IsRevision, IsServing, IsTask}
 use Rattle.hr_run.specs.Part.{Acts, LaneDoes}
 use Rattle.hr_run.specs.Part.LaneDoes.{admits, steps}
-use Rattle.hr_run.specs.State.{hook_place, status_word}
+use Rattle.hr_run.specs.State.{status_word}
 use Rattle.hr_run.specs.Weight.{final_weight, stop_weight}
-use Rattle.hr_run.proofs.ListLemmas.{all_then}
 use Rattle.hr_run.proofs.MarkLemmas.{last_noted, noted_more}
 
 -- the laws of lanes that are used
@@ -65,7 +63,7 @@ module _ (b c : Plain) (lawful : IsLawful c.words c.past) where
   still_acts e = record {
     lawful = lawful;
     kept = subst (λ (v : View). Keeps (view_of b) v) (sym e)
-      (record { jobs = refl; allows = refl; more = []; notes = sym (append-nil b.past.notes) });
+        (record { jobs = refl; allows = refl; more = []; notes = sym (append-nil b.past.notes) });
     opens = ap (λ (v : View). v.opens) e;
     finals = ap (λ (v : View). v.finals) e ∙ sym (append-nil b.past.finals);
   }
@@ -74,7 +72,7 @@ module _ (b c : Plain) (lawful : IsLawful c.words c.past) where
   running_acts place word e = record {
     lawful = lawful;
     kept = subst (λ (v : View). Keeps (view_of b) v) (sym e)
-      (record { jobs = refl; allows = refl; more = (place, 3) ∷ []; notes = refl });
+        (record { jobs = refl; allows = refl; more = (place, 3) ∷ []; notes = refl });
     opens = ap (λ (v : View). v.opens) e;
     finals = ap (λ (v : View). v.finals) e ∙ sym (append-nil b.past.finals);
   }
@@ -84,7 +82,10 @@ module _ (b c : Plain) (lawful : IsLawful c.words c.past) where
   stopping_acts more place word e = record {
     lawful = lawful;
     kept = subst (λ (v : View). Keeps (view_of b) v) (sym e) (record {
-      jobs = refl; allows = refl; more = more ++ (place, 4) ∷ []; notes = append_assoc b.past.notes more ((place, 4) ∷ []);
+      jobs = refl;
+      allows = refl;
+      more = more ++ (place, 4) ∷ [];
+      notes = append_assoc b.past.notes more ((place, 4) ∷ []);
     });
     opens = ap (λ (v : View). v.opens) e;
     finals = ap (λ (v : View). v.finals) e;
@@ -97,7 +98,10 @@ module _ (b c : Plain) (lawful : IsLawful c.words c.past) where
   closing_acts more place None e = record {
     lawful = lawful;
     kept = subst (λ (v : View). Keeps (view_of b) v) (sym e) (record {
-      jobs = refl; allows = refl; more = more ++ (place, 6) ∷ []; notes = append_assoc b.past.notes more ((place, 6) ∷ []);
+      jobs = refl;
+      allows = refl;
+      more = more ++ (place, 6) ∷ [];
+      notes = append_assoc b.past.notes more ((place, 6) ∷ []);
     });
     opens = ap (λ (v : View). v.opens) e;
     finals = ap (λ (v : View). v.finals) e;
@@ -105,7 +109,10 @@ module _ (b c : Plain) (lawful : IsLawful c.words c.past) where
   closing_acts more place (Some why) e = record {
     lawful = lawful;
     kept = subst (λ (v : View). Keeps (view_of b) v) (sym e) (record {
-      jobs = refl; allows = refl; more = more ++ (place, 5) ∷ []; notes = append_assoc b.past.notes more ((place, 5) ∷ []);
+      jobs = refl;
+      allows = refl;
+      more = more ++ (place, 5) ∷ [];
+      notes = append_assoc b.past.notes more ((place, 5) ∷ []);
     });
     opens = ap (λ (v : View). v.opens) e;
     finals = ap (λ (v : View). v.finals) e;
@@ -172,12 +179,21 @@ module _ (laws : LaneLaws) (made : List TaskSpec) (b c : Plain) (lane worked : S
   silent : Acts b c [] → worked.hooks ≡ lane.hooks → IsServing made (view_of c) worked → Worked made b c worked more
   silent acts same serving =
       subst (λ (m : List Hook). Worked made b c worked m) (sym (none_given lane worked more same gave)) (record {
-        ended = []; acts = acts; weights = λ f. refl; emitted = tt; unstopped = λ g. refl; serving = serving;
+        ended = [];
+        acts = acts;
+        weights = λ f. refl;
+        emitted = tt;
+        unstopped = λ g. refl;
+        serving = serving;
       })
 
   serving_still : Keeps (view_of b) (view_of c) → worked ≡ lane → IsServing made (view_of c) worked
   serving_still kept same = subst (λ (x : State). IsServing made (view_of c) x) (sym same) (record {
-    orderly = was.orderly; ends = was.ends; hooks = was.hooks; tasks = was.tasks; noted = noted_on lane.admitted (view_of b) (view_of c) kept was.noted;
+    orderly = was.orderly;
+    ends = was.ends;
+    hooks = was.hooks;
+    tasks = was.tasks;
+    noted = noted_on lane.admitted (view_of b) (view_of c) kept was.noted;
   })
 
   still : Acts b c [] → worked ≡ lane → Worked made b c worked more
@@ -202,7 +218,7 @@ module _ (laws : LaneLaws) (made : List TaskSpec) (b c : Plain) (lane worked : S
           hooks = laws.hooks_admit lane worked a admit.Began begins was.hooks;
           tasks = subst (λ (all : List Admitted). AllByRecursion (IsTask made) all) (sym begins.admitted) (task, was.tasks);
           noted = subst (λ (all : List Admitted). AreNoted all (view_of c)) (sym begins.admitted)
-            (noted_one lane.admitted a (view_of c) now (noted_on lane.admitted (view_of b) (view_of c) acts.kept was.noted));
+              (noted_one lane.admitted a (view_of c) now (noted_on lane.admitted (view_of b) (view_of c) acts.kept was.noted));
         };
       })
 
@@ -223,7 +239,7 @@ module _ (laws : LaneLaws) (made : List TaskSpec) (b c : Plain) (lane worked : S
         hooks = laws.hooks_step lane worked job came step was.hooks;
         tasks = subst (λ (all : List Admitted). AllByRecursion (IsTask made) all) (sym same) was.tasks;
         noted = subst (λ (all : List Admitted). AreNoted all (view_of c)) (sym same)
-          (noted_on lane.admitted (view_of b) (view_of c) kept was.noted);
+            (noted_on lane.admitted (view_of b) (view_of c) kept was.noted);
       }
 
   come_hooks : (h : Held) (mid : State) (why : Option Cause) → ComesToEnd h lane mid why → mid.hooks ≡ lane.hooks
@@ -244,10 +260,13 @@ module _ (laws : LaneLaws) (made : List TaskSpec) (b c : Plain) (lane worked : S
     ended = (place_of a.job.0 a.rev, 6) ∷ [];
     acts = closing_acts b c lawful notes (place_of a.job.0 a.rev) None e;
     weights = λ f. refl;
-    emitted = (record {
-      revision = record { spec = a.spec; copies = task.copies; within = task.within; few = task.few };
-      noted = last_noted c.past.notes (b.past.notes ++ notes) (place_of a.job.0 a.rev) 6 (ap (λ (v : View). v.notes) e);
-    }, tt);
+    emitted = (
+      record {
+        revision = record { spec = a.spec; copies = task.copies; within = task.within; few = task.few };
+        noted = last_noted c.past.notes (b.past.notes ++ notes) (place_of a.job.0 a.rev) 6 (ap (λ (v : View). v.notes) e);
+      },
+      tt,
+    );
     unstopped = λ g. refl;
     serving = serving;
   }
@@ -255,10 +274,13 @@ module _ (laws : LaneLaws) (made : List TaskSpec) (b c : Plain) (lane worked : S
     ended = (place_of a.job.0 a.rev, 5) ∷ [];
     acts = closing_acts b c lawful notes (place_of a.job.0 a.rev) (Some why) e;
     weights = λ f. refl;
-    emitted = (record {
-      revision = record { spec = a.spec; copies = task.copies; within = task.within; few = task.few };
-      noted = last_noted c.past.notes (b.past.notes ++ notes) (place_of a.job.0 a.rev) 5 (ap (λ (v : View). v.notes) e);
-    }, tt);
+    emitted = (
+      record {
+        revision = record { spec = a.spec; copies = task.copies; within = task.within; few = task.few };
+        noted = last_noted c.past.notes (b.past.notes ++ notes) (place_of a.job.0 a.rev) 5 (ap (λ (v : View). v.notes) e);
+      },
+      tt,
+    );
     unstopped = λ g. refl;
     serving = serving;
   }

@@ -2,23 +2,22 @@
 use Rattle.std.proofs.Common.{◌≡◌, ◌⊎◌, inl, inr, refl, sym, ap, subst, ◌∙◌, zero, suc, ℕ, ◌+◌, ◌<◌, ◌≤◌, Bool, true, false, List, [], ◌∷◌, ◌++◌, length, slice_get, arith}
 use Rattle.std.proofs.lemmas.List.Elements.{Contains-append_left, Contains-push}
 use Rattle.std.proofs.lemmas.List.Sums.{sum_by-append}
-use Rattle.std.specs.Prelude.{Option, Some, None, unwrap_or}
-use Rattle.std.specs.List.{AllByRecursion, Contains, sum_by}
+use Rattle.std.specs.Prelude.{Some, unwrap_or}
+use Rattle.std.specs.List.{AllByRecursion, sum_by}
 use Rattle.hr_base.specs.declared.status.Status.{Status}
 use Rattle.hr_base.specs.declared.status.Status.TheVariants as status
 use Rattle.hr_base.specs.declared.status.Mark.{Mark}
 use Rattle.hr_base.specs.declared.status.Mark.TheVariants.{At, Unopened}
 use Rattle.hr_base.specs.declared.status.Hook.{Hook}
-use Rattle.hr_base.specs.Status.{Covers, IsFinal, code_of, word_of}
+use Rattle.hr_base.specs.Status.{Covers, code_of, word_of}
 use Rattle.hr_event.specs.declared.task.TaskSpec.{TaskSpec}
 use Rattle.hr_board.specs.Moves.{Below}
-use Rattle.hr_board.specs.Plain.{IsLawful, Plain, view_of}
+use Rattle.hr_board.specs.Plain.{Plain, view_of}
 use Rattle.hr_board.specs.View.{Keeps, Noted, Notes, Place, View, Word}
 use Rattle.hr_line.specs.declared.held.Admitted.{Admitted}
 use Rattle.hr_run.specs.Holds.{CoveredBy, HasAttempts, IsCovered, IsEmitted, IsRevision, IsTask}
-use Rattle.hr_run.specs.Part.{Acts}
 use Rattle.hr_run.specs.State.{hook_at, hook_place, spec_of, status_word, was_delivered, with_mark}
-use Rattle.hr_run.proofs.ListLemmas.{all_at, all_then, get_more, get_within}
+use Rattle.hr_run.proofs.ListLemmas.{all_at, get_more, get_within}
 
 -- ---- what covers a status
 

@@ -1,8 +1,8 @@
 -- What holds as the core opens.
-use Rattle.std.proofs.Common.{◌≡◌, refl, sym, ap, ◌∙◌, zero, suc, ℕ, ◌+◌, ◌*◌, ◌/◌, ◌≤◌, List, [], ◌∷◌, length, subst, arith}
+use Rattle.std.proofs.Common.{◌≡◌, refl, sym, ap, zero, suc, ℕ, ◌*◌, List, [], ◌∷◌, subst, arith}
 use Rattle.std.proofs.lemmas.List.{length-replicate}
 use Rattle.std.proofs.lemmas.List.Sums.{sum_by-cons}
-use Rattle.std.specs.Prelude.{Option, IfSome, IsSome, replicate, slice_get, unwrap_or, false, true}
+use Rattle.std.specs.Prelude.{Option, IfSome, true}
 use Rattle.std.specs.List.{AllByRecursion, sum_by}
 use Rattle.hr_base.specs.declared.status.Hook.{Hook}
 use Rattle.hr_event.specs.declared.task.TaskSpec.{TaskSpec}

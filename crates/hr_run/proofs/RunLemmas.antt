@@ -1,6 +1,6 @@
 -- What parts do to each lane is a run of its calls.
-use Rattle.std.proofs.Common.{◌≡◌, ◌⊎◌, inl, inr, refl, sym, ap, subst, ◌∙◌, zero, suc, ℕ, ◌+◌, ◌<◌, ◌≤◌, List, [], ◌∷◌, ◌++◌, length, set, slice_get, arith}
-use Rattle.std.specs.Prelude.{Option, Some, None}
+use Rattle.std.proofs.Common.{◌≡◌, refl, sym, ap, subst, ◌∙◌, zero, suc, ℕ, List, [], ◌∷◌, ◌++◌, set, slice_get}
+use Rattle.std.specs.Prelude.{Some}
 use Rattle.std.specs.List.{AllByRecursion}
 use Rattle.hr_base.specs.declared.number.JobNo.{JobNo}
 use Rattle.hr_board.specs.Plain.{view_of}
@@ -16,13 +16,13 @@ use Rattle.hr_lane.specs.Admission.{AdmitsWord}
 use Rattle.hr_lane.specs.Word.{Steps}
 use Rattle.hr_session.specs.Holds.{LaneRuns}
 use Rattle.hr_session.specs.Lane.{IsLaneSound}
-use Rattle.hr_run.specs.Part.{LaneDoes, Part, Parts, Works}
+use Rattle.hr_run.specs.Part.{LaneDoes, Part, Parts}
 use Rattle.hr_run.specs.Part.LaneDoes.{admits, steps}
 use Rattle.hr_run.specs.Part.Part.{makes, passes, receives, stops, turns, works}
 use Rattle.hr_run.specs.Part.Parts.{next, none}
 use Rattle.hr_run.specs.Claims.{LanesRun}
 use Rattle.hr_run.specs.State.{CoreState}
-use Rattle.hr_run.proofs.ListLemmas.{all_set, get_within}
+use Rattle.hr_run.proofs.ListLemmas.{all_set}
 
 lane_still : (s t : State) → t ≡ s → LaneRuns s t
 lane_still s t same = record { calls = []; runs = same }

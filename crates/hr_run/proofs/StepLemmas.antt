@@ -1,10 +1,9 @@
 -- What each event does is made of parts.
-use Rattle.std.proofs.Common.{◌≡◌, ◌≢◌, ◌⊎◌, inl, inr, refl, sym, ap, subst, ◌∙◌, zero, suc, ℕ, ◌+◌, ◌<◌, ◌≤◌, Bool, true, false, List, [], ◌∷◌, ◌++◌, length, slice_get, arith}
+use Rattle.std.proofs.Common.{◌≡◌, inl, inr, refl, sym, ap, subst, ◌∙◌, zero, suc, ℕ, ◌+◌, ◌≤◌, Bool, true, List, [], ◌∷◌, ◌++◌, length, arith}
 use Rattle.std.proofs.lemmas.Bool.Decides.{nat_tests}
 use Rattle.std.proofs.lemmas.List.{append-nil}
-use Rattle.std.specs.Prelude.{Option, Some, None, IfSome, Ok, Err, nat_le, nat_lt, ◌&&◌, if◌then◌else◌, nat_eq}
+use Rattle.std.specs.Prelude.{Option, Some, None, IfSome, nat_le, nat_lt, ◌&&◌}
 use Rattle.std.specs.List.{AllByRecursion, Contains, insert}
-use Rattle.hr_base.specs.declared.number.ExecNo.{ExecNo}
 use Rattle.hr_base.specs.declared.number.JobNo.{JobNo}
 use Rattle.hr_base.specs.declared.number.PolicyNo.{PolicyNo}
 use Rattle.hr_base.specs.declared.status.Hook.{Hook}
@@ -30,30 +29,29 @@ use Rattle.hr_queue.specs.declared.answer.Settled.{Settled}
 use Rattle.hr_queue.specs.declared.answer.Taken.{Taken}
 use Rattle.hr_queue.specs.declared.answer.Taken.TheVariants as taken
 use Rattle.hr_lane.specs.Admission.{by_turn}
-use Rattle.hr_store.specs.Creating.{IsCreated, has_room}
+use Rattle.hr_store.specs.Creating.{IsCreated}
 use Rattle.hr_store.specs.Execution.{ExecState}
 use Rattle.hr_store.specs.Laws.{RowStays}
 use Rattle.hr_store.specs.Row.{RowState}
-use Rattle.hr_store.specs.Store.{AreOrdered, FailsBare, StoreState, exec_failing, execs_failing, first_row, row_among, row_of_job}
+use Rattle.hr_store.specs.Store.{AreOrdered, FailsBare, StoreState, execs_failing, first_row, row_among, row_of_job}
 use Rattle.hr_store.specs.Sweeping.{kept_by}
 use Rattle.hr_run.specs.Does.{DeliversNumber, DoesOne}
 use Rattle.hr_run.specs.Holds.{HasAttempts, Holds, IsEmitted, IsTask}
-use Rattle.hr_run.specs.Part.{Acts, LaneDoes, Makes, Part, Parts, Passes, Receives, Stops, Turns, Works}
+use Rattle.hr_run.specs.Part.{Acts, Part, Parts}
 use Rattle.hr_run.specs.Part.LaneDoes.{admits, steps}
 use Rattle.hr_run.specs.Part.Part.{makes, passes, receives, stops, turns, works}
 use Rattle.hr_run.specs.Part.Parts.{next, none}
 use Rattle.hr_run.specs.Sound.{IsSound}
-use Rattle.hr_run.specs.State.{CoreState, hook_at, queued_from, spec_of}
-use Rattle.hr_run.specs.Triggering.{Creates, FailsToPlan, IsFull, Reserves, Triggers}
-use Rattle.hr_run.specs.Turning.{AdmitsTurn, FindsHeld, FindsNotOut, FindsSwept, GoesOut, SettlesOut, StepsJob, StepsNone, TakesNone, TakesTurn}
-use Rattle.hr_run.specs.Stopping.{FindsFinal, FindsNoJob, LooksAt, StopsJob}
-use Rattle.hr_run.specs.Delivering.{Delivers, FindsNoHook, Forges, Sweeps, Waits}
+use Rattle.hr_run.specs.State.{CoreState, queued_from}
+use Rattle.hr_run.specs.Triggering.{Creates, FailsToPlan, Reserves, Triggers}
+use Rattle.hr_run.specs.Turning.{GoesOut, SettlesOut, StepsJob, TakesTurn}
+use Rattle.hr_run.specs.Stopping.{FindsFinal, LooksAt, StopsJob}
+use Rattle.hr_run.specs.Delivering.{Delivers, Forges, Sweeps}
 use Rattle.hr_run.specs.Triggering.Triggers.{creates, fails, is_full, no_policy}
-use Rattle.hr_run.proofs.DoneLemmas.{queued_made, WasMade, made_spec}
-use Rattle.hr_run.proofs.KeepsLemmas.{OtherLaws, keeps_parts, keeps_turns}
+use Rattle.hr_run.proofs.DoneLemmas.{queued_made, made_spec}
+use Rattle.hr_run.proofs.KeepsLemmas.{OtherLaws, keeps_parts}
 use Rattle.hr_run.proofs.LaneLemmas.{LaneLaws, quiet_acts, still_acts}
-use Rattle.hr_run.proofs.ListLemmas.{all_member}
-use Rattle.hr_run.proofs.MarkLemmas.{few_each, hook_all}
+use Rattle.hr_run.proofs.MarkLemmas.{hook_all}
 
 -- the laws of the queue and of the store that are used
 pub record CallLaws : Type 0 where
@@ -86,7 +84,7 @@ board_only s t acts after = passes (record {
   limit = ap (λ (x : CoreState). x.store.limit) after;
   rows = λ job row e. sym (ap (λ (x : CoreState). row_of_job job x.store.kept) after) ∙ e;
   after = after ∙ ap (λ (y : StoreState). record s { board = t.board; store = y }) (sym (ap (λ (x : CoreState). x.store) after))
-    ∙ ap (λ (n : ℕ). record s { board = t.board; store = t.store; now = n }) (sym (ap (λ (x : CoreState). x.now) after));
+      ∙ ap (λ (n : ℕ). record s { board = t.board; store = t.store; now = n }) (sym (ap (λ (x : CoreState). x.now) after));
 })
 
 -- the store changes, and the board stays
@@ -101,7 +99,7 @@ store_only s t sound jobs limit rows after =
       limit = limit;
       rows = rows;
       after = after ∙ ap (λ (y : Plain). record s { board = y; store = t.store }) (sym b)
-        ∙ ap (λ (n : ℕ). record s { board = t.board; store = t.store; now = n }) (sym (ap (λ (x : CoreState). x.now) after));
+          ∙ ap (λ (n : ℕ). record s { board = t.board; store = t.store; now = n }) (sym (ap (λ (x : CoreState). x.now) after));
     })
 
 -- the queue changes, and the board stays
@@ -175,7 +173,14 @@ module _ (lane_laws : LaneLaws) (laws : OtherLaws) (calls : CallLaws) where
       queue_only s t sound (subst (λ (q : queue.View). Gains s.turns (view_of s.board) [] q (view_of s.board)) (sym room)
       (let g = calls.none s.turns (view_of s.board) in
       record {
-        added = g.added; kept = g.kept; finals = g.finals; places = g.places; opens = g.opens; may = g.may; ended = g.ended; done = g.done;
+        added = g.added;
+        kept = g.kept;
+        finals = g.finals;
+        places = g.places;
+        opens = g.opens;
+        may = g.may;
+        ended = g.ended;
+        done = g.done;
         over = g.over;
       })) h.after
 
@@ -194,29 +199,45 @@ module _ (lane_laws : LaneLaws) (laws : OtherLaws) (calls : CallLaws) where
       let known = all_inserted (IsAdded h.mid.turns.added) s.turns.out at h.turn (subst A out m.whole.known.outs) in
       next s h.mid t first (elim h.admits [
         | inl a ↦ one_part h.mid t (works (record {
-            at = _; lane = a.lane; worked = a.worked; calls = a.calls; lawful = sound.lawful;
-            does = admits (by_turn h.turn a.row.spec) a.came (turn_task h.mid m h.turn a.row good known a.there) a.admits;
-          }))
+          at = _;
+          lane = a.lane;
+          worked = a.worked;
+          calls = a.calls;
+          lawful = sound.lawful;
+          does = admits (by_turn h.turn a.row.spec) a.came (turn_task h.mid m h.turn a.row good known a.there) a.admits;
+        }))
         | inr b ↦ one_part h.mid t (board_only h.mid t
             (quiet_acts h.mid.board t.board sound.lawful ((place_of h.turn.job.0 h.turn.rev, word_of b.mark) ∷ []) b.finds.noted) b.after)
       ])
 
   pub step_part : (s t : CoreState) (job : JobNo) (answer : Told) → IsSound t → StepsJob s job answer t → Part s t
   step_part s t job answer sound h = works (record {
-    at = h.at; lane = h.lane; worked = h.worked; calls = h.calls; lawful = sound.lawful; does = steps job h.came h.steps;
+    at = h.at;
+    lane = h.lane;
+    worked = h.worked;
+    calls = h.calls;
+    lawful = sound.lawful;
+    does = steps job h.came h.steps;
   })
 
   pub settle_part : (s t : CoreState) (job : JobNo) (answer : Told) → Holds s → IsSound t → SettlesOut s job answer t → Part s t
   settle_part s t job answer o sound h = turns (record {
-    lawful = sound.lawful; whole = sound.whole;
+    lawful = sound.lawful;
+    whole = sound.whole;
     gains = calls.settle s.now s.turns t.turns (view_of s.board) (view_of t.board) h.turn h.came o.whole (inr h.settles);
     after = h.after;
   })
 
   stop_part : (s t : CoreState) (job : JobNo) (answer : Told) → Holds s → IsSound t → StopsJob s job answer t → Part s t
   stop_part s t job answer o sound h = stops (record {
-    job = job; spec = h.row.spec; copies = o.rows job.0 h.row h.there; rev = h.rev; stopped = h.stops; lawful = sound.lawful;
-    hooks = h.hooks; after = h.after;
+    job = job;
+    spec = h.row.spec;
+    copies = o.rows job.0 h.row h.there;
+    rev = h.rev;
+    stopped = h.stops;
+    lawful = sound.lawful;
+    hooks = h.hooks;
+    after = h.after;
   })
 
   final_part : (s t : CoreState) (job : JobNo) (answer : Told) → IsSound t → FindsFinal s job answer t → Part s t
@@ -229,16 +250,27 @@ module _ (lane_laws : LaneLaws) (laws : OtherLaws) (calls : CallLaws) where
       let within = e.revision.within in
       let few = e.revision.few in
       receives (record {
-        hook = h.hook; small = omega (arith, within, few); place = Some place; came = h.came; receives = h.receives; lawful = sound.lawful;
-        marks = (h.there, h.marks); after = h.after;
+        hook = h.hook;
+        small = omega (arith, within, few);
+        place = Some place;
+        came = h.came;
+        receives = h.receives;
+        lawful = sound.lawful;
+        marks = (h.there, h.marks);
+        after = h.after;
       })
 
   forge_part : (s t : CoreState) (hook : Hook) (answer : Told) → IsSound t → Forges s hook answer t → Part s t
   forge_part s t hook answer sound h = receives (record {
-    hook = hook; small = h.small; place = None; came = h.came; receives = h.receives; lawful = sound.lawful;
+    hook = hook;
+    small = h.small;
+    place = None;
+    came = h.came;
+    receives = h.receives;
+    lawful = sound.lawful;
     marks = ap (λ (x : CoreState). x.delivered) h.after;
     after = h.after ∙ ap (λ (ms : List Bool). record s { board = t.board; store = t.store; delivered = ms })
-      (sym (ap (λ (x : CoreState). x.delivered) h.after));
+        (sym (ap (λ (x : CoreState). x.delivered) h.after));
   })
 
   -- the moment moves, and nothing else
@@ -252,7 +284,7 @@ module _ (lane_laws : LaneLaws) (laws : OtherLaws) (calls : CallLaws) where
         limit = ap (λ (x : StoreState). x.limit) st;
         rows = λ job row e. sym (ap (λ (x : StoreState). row_of_job job x.kept) st) ∙ e;
         after = after ∙ ap (λ (y : Plain). record s { board = y; now = t.now }) (sym b)
-          ∙ ap (λ (y : StoreState). record s { board = t.board; store = y; now = t.now }) (sym st);
+            ∙ ap (λ (y : StoreState). record s { board = t.board; store = y; now = t.now }) (sym st);
       })
 
   sweep_part : (s t : CoreState) (keep : ℕ) (answer : Told) → IsSound s → IsSound t → Sweeps s keep answer t → Part s t

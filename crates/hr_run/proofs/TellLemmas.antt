@@ -1,25 +1,24 @@
 -- What rows tell is what the words are.
-use Rattle.std.proofs.Common.{◌≡◌, ◌⊎◌, inl, inr, refl, sym, ap, subst, ◌∙◌, zero, suc, ℕ, ◌+◌, ◌<◌, ◌≤◌, Bool, true, false, List, [], ◌∷◌, map, arith}
-use Rattle.std.specs.Prelude.{Option, Some, None, IsTrue, if◌then◌else◌}
+use Rattle.std.proofs.Common.{◌≡◌, ◌⊎◌, inl, inr, refl, sym, ap, subst, ◌∙◌, zero, suc, ℕ, ◌≤◌, Bool, true, false, List, [], ◌∷◌, map, arith}
+use Rattle.std.specs.Prelude.{Some, None, IsTrue, if◌then◌else◌}
 use Rattle.std.specs.List.{AllByRecursion, Contains}
-use Rattle.hr_base.specs.Merge.{first_greatest, greater_of, is_above, joined, told_by}
+use Rattle.hr_base.specs.Merge.{first_greatest, is_above, joined, told_by}
 use Rattle.hr_base.specs.declared.status.Hook.{Hook}
 use Rattle.hr_base.specs.declared.status.Status.{Status}
 use Rattle.hr_base.specs.declared.status.Status.TheVariants as status
-use Rattle.hr_event.specs.declared.task.TaskSpec.{TaskSpec}
 use Rattle.hr_event.specs.declared.told.Told.{Told}
 use Rattle.hr_board.specs.Over.{EndsJob, IsOver}
-use Rattle.hr_board.specs.View.{Place, Word, place_of}
+use Rattle.hr_board.specs.View.{Word, place_of}
 use Rattle.hr_store.specs.Execution.{ExecState}
 use Rattle.hr_store.specs.Laws.{RowIsOver, RowStays}
-use Rattle.hr_store.specs.Row.{RowState, ends_job, is_over}
+use Rattle.hr_store.specs.Row.{RowState, ends_job}
 use Rattle.hr_store.specs.Store.{AreOrdered, FailsBare, StoreState, row_of_job}
 use Rattle.hr_store.specs.Sweeping.{kept_by}
-use Rattle.hr_run.specs.Claims.{IsConfirmed, RowsTell, word_at}
+use Rattle.hr_run.specs.Claims.{RowsTell, word_at}
 use Rattle.hr_run.specs.Delivering.{Sweeps}
-use Rattle.hr_run.specs.Holds.{HasAttempts, Holds}
+use Rattle.hr_run.specs.Holds.{Holds}
 use Rattle.hr_run.specs.Sound.{IsSound}
-use Rattle.hr_run.specs.State.{CoreState, hook_place, spec_of, status_word}
+use Rattle.hr_run.specs.State.{CoreState, hook_place, status_word}
 use Rattle.hr_run.proofs.DoneLemmas.{ends_final, unopened}
 use Rattle.hr_run.proofs.ListLemmas.{there_first, there_later}
 use Rattle.hr_run.proofs.MarkLemmas.{attempts_each, final_covered}
@@ -86,7 +85,7 @@ row_told s o job row e f =
     record {
       small = omega (arith, small, rev);
       word = ap (λ (j : ℕ). word_at s.board (place_of j (joined row.received).0)) (sym c.of_job)
-        ∙ ap (λ (r : ℕ). word_at s.board (place_of (h.hook).job.0 r)) (sym rev) ∙ w ∙ st;
+          ∙ ap (λ (r : ℕ). word_at s.board (place_of (h.hook).job.0 r)) (sym rev) ∙ w ∙ st;
     }
 
 module _ (ends_over : (words : List Word) (job attempts rev : ℕ) (st : Status) → RowIsOver words job attempts rev st)

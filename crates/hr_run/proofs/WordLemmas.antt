@@ -1,12 +1,11 @@
 -- What holds of words, entries and hooks.
-use Rattle.std.proofs.Common.{◌≡◌, ◌≢◌, ◌⊎◌, inl, inr, refl, sym, ap, subst, ◌∙◌, zero, suc, ℕ, ◌+◌, ◌<◌, ◌≤◌, Bool, true, false, cond, ◌&&◌, List, [], ◌∷◌, ◌++◌, length, eq-eqb, arith}
+use Rattle.std.proofs.Common.{◌≡◌, inl, inr, refl, sym, ap, subst, ◌∙◌, zero, suc, ℕ, ◌+◌, ◌≤◌, Bool, cond, ◌&&◌, List, [], ◌∷◌, eq-eqb, arith}
 use Rattle.std.proofs.lemmas.Bool.Decides.{eqb_tells, nat_tests}
 use Rattle.std.proofs.lemmas.List.Sums.{sum_by-cons}
 use Rattle.std.specs.Prelude.{Option, Some, None, IfSome, IsSome, nat_eq, nat_le}
-use Rattle.std.specs.List.{AllByRecursion, Contains, cons_option, filter_map, sum_by}
+use Rattle.std.specs.List.{Contains, cons_option, filter_map, sum_by}
 use Rattle.hr_base.specs.declared.status.Hook.{Hook}
 use Rattle.hr_base.specs.declared.status.Status.{Status}
-use Rattle.hr_base.specs.declared.status.Status.TheVariants as status
 use Rattle.hr_event.specs.declared.cause.Cause.{Cause}
 use Rattle.hr_event.specs.declared.entry.Entry.{Entry}
 use Rattle.hr_event.specs.declared.entry.What.{What}
@@ -18,9 +17,8 @@ use Rattle.hr_line.specs.Hooks.{hook_from}
 use Rattle.hr_line.specs.Orderly.{admitted_at}
 use Rattle.hr_line.specs.State.{State}
 use Rattle.hr_line.specs.declared.held.Admitted.{Admitted}
-use Rattle.hr_store.specs.Laws.{hooks_of_job}
 use Rattle.hr_run.specs.Claims.{AllConfirmed, OneEach, OneFinal, ends_at, word_at}
-use Rattle.hr_run.specs.Holds.{CoveredBy, Holds, IsCovered, IsEmitted, IsServing}
+use Rattle.hr_run.specs.Holds.{Holds, IsCovered, IsEmitted, IsServing}
 use Rattle.hr_run.specs.State.{CoreState, hook_place, status_word}
 use Rattle.hr_run.specs.Weight.{at, entry_weight, final_weight, lane_weight, one_if, some_weight, stop_weight}
 use Rattle.hr_run.proofs.ListLemmas.{all_member, each_zero, sum_same, sum_zero, there_first, there_later}
@@ -153,7 +151,7 @@ one_move s o place f =
     let w = word_at s.board place in
     let G : ℕ → ℕ = word_at s.board in
     let same = sum_same (at place w) (λ n. one_if (nat_eq n.0 place)) s.board.past.finals
-      (λ n c. at_word n.0 place w n.1 (λ e. sym (o.lawful.final_moves n.0 n.1 c).1 ∙ ap G e)) in
+    (λ n c. at_word n.0 place w n.1 (λ e. sym (o.lawful.final_moves n.0 n.1 c).1 ∙ ap G e)) in
     let one = (o.lawful.finals_once place).1 f in
     same ∙ one
 
@@ -169,15 +167,15 @@ no_stop h place w f = stop_none (status_word h.status) (hook_place h) place w f
 pub one_each : (s : CoreState) → Holds s → OneEach s
 one_each s o = record {
   told = λ place f. (let a = one_move s o place f in
-    let b = o.finals (at place (word_at s.board place)) in sym b ∙ a);
+      let b = o.finals (at place (word_at s.board place)) in sym b ∙ a);
   ended = λ place f. (
-    let w = word_at s.board place in
-    let G : Hook → ℕ = final_weight (at place w) in
-    let a = one_move s o place (omega (arith, f)) in
-    let b = o.finals (at place w) in
-    let sh = o.shares G in
-    let c = sum_zero (stop_weight G) s.hooks (λ h k. no_stop h place w f) in
-    let d = sum_same (lane_weight G) (ends_at place w) s.lanes (λ lane k.
+      let w = word_at s.board place in
+      let G : Hook → ℕ = final_weight (at place w) in
+      let a = one_move s o place (omega (arith, f)) in
+      let b = o.finals (at place w) in
+      let sh = o.shares G in
+      let c = sum_zero (stop_weight G) s.hooks (λ h k. no_stop h place w f) in
+      let d = sum_same (lane_weight G) (ends_at place w) s.lanes (λ lane k.
       (let was = all_member (IsServing s.made _) s.lanes lane o.lanes k in ap (sum_by G) was.hooks ∙ log_weight G lane.log)) in
-    omega (arith, a, b, sh, c, d));
+      omega (arith, a, b, sh, c, d));
 }

@@ -1,6 +1,6 @@
 -- What an event does that is no finish, with its answers. (Our own, after Harbor's job service and
 -- its task manager.)
-use Rattle.std.specs.Prelude.{◌≡◌, ◌⊎◌, ◌+◌, zero, suc, ℕ, List, [], ◌∷◌, ◌++◌, map, Option, Some, None, unwrap_or, option_map}
+use Rattle.std.specs.Prelude.{◌≡◌, ◌⊎◌, zero, suc, ℕ, List, [], ◌∷◌, ◌++◌, map, Option, Some, None, unwrap_or, option_map}
 use Rattle.hr_base.specs.Merge.{joined}
 use Rattle.hr_base.specs.declared.number.ExecNo.{ExecNo}
 use Rattle.hr_base.specs.declared.number.JobNo.{JobNo}

@@ -1,6 +1,6 @@
 -- The parts of which events are made: each changes a few things, and leaves what holds of the core.
 -- (Our own.)
-use Rattle.std.specs.Prelude.{◌≡◌, ◌⊎◌, ◌≤◌, ℕ, suc, List, [], ◌∷◌, ◌++◌, length, slice_get, slice_set, Option, Some, None}
+use Rattle.std.specs.Prelude.{◌≡◌, ◌≤◌, ℕ, suc, List, [], ◌∷◌, ◌++◌, length, slice_get, slice_set, Option, Some, None}
 use Rattle.std.specs.List.{AllByRecursion}
 use Rattle.hr_base.specs.declared.number.ExecNo.{ExecNo}
 use Rattle.hr_base.specs.declared.number.JobNo.{JobNo}

@@ -1,6 +1,6 @@
 -- What an event does and what it leaves where memory is wanted in its middle, and events one after
 -- the other. (Our own.)
-use Rattle.std.specs.Prelude.{◌≡◌, ◌+◌, suc, ℕ, true, false, List, [], ◌∷◌, ◌++◌, slice_get, Some}
+use Rattle.std.specs.Prelude.{◌≡◌, suc, ℕ, true, false, List, [], ◌∷◌, ◌++◌, slice_get, Some}
 use Rattle.hr_base.specs.declared.number.JobNo.{JobNo}
 use Rattle.hr_base.specs.declared.number.PolicyNo.{PolicyNo}
 use Rattle.hr_event.specs.declared.event.Event.{Event}

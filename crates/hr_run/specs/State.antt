@@ -1,9 +1,7 @@
 -- The state of the core, as contracts see it: lanes, a board, a queue and a store, and the hooks
 -- that went between them. (Our own, after Harbor's job service and its task manager.)
-use Rattle.std.specs.Prelude.{◌≡◌, ℕ, ◌+◌, ◌<◌, ◌≤◌, zero, suc, Bool, true, false, nat_le, nat_eq, cond, List, [], ◌∷◌, length, slice_get, Option, Some, None, unwrap_or}
-use Rattle.std.specs.Option.{option_map}
+use Rattle.std.specs.Prelude.{ℕ, zero, suc, Bool, true, false, List, [], ◌∷◌, slice_get, Option, None, unwrap_or}
 use Rattle.hr_base.specs.declared.status.Status.{Status}
-use Rattle.hr_base.specs.declared.status.Status.TheVariants as status
 use Rattle.hr_base.specs.declared.status.Mark.TheVariants.{At}
 use Rattle.hr_base.specs.declared.status.Hook.{Hook}
 use Rattle.hr_base.specs.Status.{word_of}
@@ -11,7 +9,6 @@ use Rattle.hr_event.specs.declared.task.TaskSpec.{TaskSpec}
 use Rattle.hr_board.specs.Plain.{Plain, new_board}
 use Rattle.hr_board.specs.View.{Place, Word, place_of}
 use Rattle.hr_line.specs.State.{Link, State}
-use Rattle.hr_lane.specs.State.{new_lane}
 use Rattle.hr_queue.specs.View as queue
 use Rattle.hr_queue.specs.View.{empty_queue}
 use Rattle.hr_queue.specs.declared.answer.Queued.{Queued}

@@ -1,5 +1,5 @@
 -- What a trigger does: it plans a policy into an execution. (Our own, after Harbor's job service.)
-use Rattle.std.specs.Prelude.{◌≡◌, ◌+◌, ℕ, List, [], ◌++◌, length, Option, Some, None, Ok, Err}
+use Rattle.std.specs.Prelude.{◌≡◌, ℕ, List, [], ◌++◌, length, Option, Some, None, Ok, Err}
 use Rattle.hr_base.specs.declared.number.ExecNo.{ExecNo}
 use Rattle.hr_base.specs.declared.number.Moment.{Moment}
 use Rattle.hr_base.specs.declared.number.PolicyNo.{PolicyNo}

@@ -1,6 +1,6 @@
 -- Weights of hooks: sums over them say, without any order, which hooks are whose, and which final
 -- move of the board each is of. (Our own.)
-use Rattle.std.specs.Prelude.{ℕ, ◌&&◌, Bool, nat_eq, nat_le, cond, Option, Some, None, List}
+use Rattle.std.specs.Prelude.{ℕ, ◌&&◌, Bool, nat_eq, nat_le, cond, Option, Some, None}
 use Rattle.std.specs.List.{sum_by}
 use Rattle.hr_base.specs.declared.status.Hook.{Hook}
 use Rattle.hr_event.specs.declared.entry.Entry.{Entry}
