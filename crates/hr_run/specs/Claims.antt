@@ -66,12 +66,13 @@ abbrev pub AllConfirmed : CoreState → Type 0
 AllConfirmed s = (job : ℕ) (heard : List Hook) (hook : Hook)
     → hooks_of_job job s.store.kept ≡ Some heard → Contains heard hook → IsConfirmed s.board job hook
 
--- what rows tell: a row at a final status tells the word of its revision, and a row that ends its job
--- is of one that is over
+-- what rows tell: a row at a final status tells the word of its revision, and a row that ends its
+-- job is of one that is over
 pub record RowsTell (s : CoreState) : Type 0 where
   pub final : (job : ℕ) (row : RowState) → row_of_job job s.store.kept ≡ Some row
       → 4 ≤ status_word (joined row.received).1
-      → word_at s.board (place_of job (joined row.received).0) ≡ status_word (joined row.received).1
+      → word_at s.board (place_of job (joined row.received).0)
+      ≡ status_word (joined row.received).1
   pub over : (job : ℕ) (row : RowState) → row_of_job job s.store.kept ≡ Some row
       → EndsJob row.spec.attempts (joined row.received) → IsOver s.board.words job row.spec.attempts
 

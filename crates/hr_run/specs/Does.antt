@@ -52,14 +52,16 @@ links_of (lane ∷ more) = lane.sources ++ lane.dests ++ links_of more
 -- the tags that a registry shows, as answers
 abbrev pub tags_told : CoreState → RegNo → List Told
 tags_told s reg =
-    unwrap_or (option_map (λ r. map tag_told (shown_of r)) (link_at (links_of s.lanes ++ s.others) reg)) []
+    unwrap_or
+    (option_map (λ r. map tag_told (shown_of r)) (link_at (links_of s.lanes ++ s.others) reg)) []
 
 -- ---- each event but a finish
 
 -- a hook by its number, from 1
 abbrev pub DeliversNumber : CoreState → ℕ → Told → CoreState → Type 0
 DeliversNumber s zero answer t = FindsNoHook s 0 answer t
-DeliversNumber s (suc place) answer t = Delivers s place answer t ⊎ FindsNoHook s (suc place) answer t
+DeliversNumber s (suc place) answer t =
+    Delivers s place answer t ⊎ FindsNoHook s (suc place) answer t
 
 -- one answer, of which this holds
 abbrev pub One : (Told → Type 0) → List Told → Type 0
@@ -79,7 +81,8 @@ DoesOne s (event.Settle job) answers t = One (λ answer.
     SettlesOut s job answer t ⊎ (FindsNotOut s job answer t ⊎ FindsHeld s job answer t)) answers
 DoesOne s (event.Stop job) answers t = One (λ answer.
     StopsJob s job answer t ⊎ (FindsFinal s job answer t ⊎ FindsNoJob s job answer t)) answers
-DoesOne s (event.Deliver number) answers t = One (λ answer. DeliversNumber s number answer t) answers
+DoesOne s (event.Deliver number) answers t =
+    One (λ answer. DeliversNumber s number answer t) answers
 DoesOne s (event.Forge hook) answers t = One (λ answer. Forges s hook answer t) answers
 DoesOne s (event.Wait seconds) answers t = One (λ answer. Waits s seconds answer t) answers
 DoesOne s (event.Sweep keep) answers t = One (λ answer. Sweeps s keep answer t) answers

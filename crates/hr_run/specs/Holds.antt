@@ -98,7 +98,8 @@ pub record Holds (s : CoreState) : Type 0 where
   pub shares : (g : Hook → ℕ)
       → sum_by g s.hooks ≡ sum_by (lane_weight g) s.lanes + sum_by (stop_weight g) s.hooks
   -- each own final move of the board has its emitted hook, and each of a final status its move
-  pub finals : (f : Place × Word → ℕ) → sum_by f s.board.past.finals ≡ sum_by (final_weight f) s.hooks
+  pub finals : (f : Place × Word → ℕ)
+      → sum_by f s.board.past.finals ≡ sum_by (final_weight f) s.hooks
   pub emitted : AllByRecursion (IsEmitted s.made s.board.past.notes) s.hooks
   -- what rows received is covered by what was noted, and what was delivered was received
   pub received : (job : ℕ) (heard : List Hook) → hooks_of_job job s.store.kept ≡ Some heard

@@ -52,7 +52,8 @@ pub record Makes (s t : CoreState) : Type 0 where
   pub created : IsCreated s.store policy trigger specs now exec t.store
   pub lawful : IsLawful t.board.words t.board.past
   pub whole : IsWhole t.turns
-  pub gains : Gains s.turns (view_of s.board) (queued_from (length s.made) specs) t.turns (view_of t.board)
+  pub gains : Gains s.turns (view_of s.board) (queued_from (length s.made) specs)
+      t.turns (view_of t.board)
   pub made : t.made ≡ s.made ++ specs
   pub after : t ≡ record s { board = t.board; turns = t.turns; store = t.store; made = t.made }
 
@@ -63,16 +64,16 @@ pub record Turns (s t : CoreState) : Type 0 where
   pub gains : Gains s.turns (view_of s.board) [] t.turns (view_of t.board)
   pub after : t ≡ record s { board = t.board; turns = t.turns }
 
--- one call of a lane, with what it does to the board: it admits a revision of a job that was made, or
--- makes a step
+-- one call of a lane, with what it does to the board: it admits a revision of a job that was made,
+-- or makes a step
 pub data LaneDoes (made : List TaskSpec) (lane worked : State) (v w : board.View) : Type 0 where
   admits : (a : Admitted) (came : Admit) → IsTask made a → AdmitsWord lane worked a v w came
       → LaneDoes made lane worked v w
   steps : (job : JobNo) (came : Stepped) → Steps lane worked job v w came
       → LaneDoes made lane worked v w
 
--- the lane at a place was called, and the hooks that it gave, the newest first, were emitted: one at
--- most
+-- the lane at a place was called, and the hooks that it gave, the newest first, were emitted: one
+-- at most
 pub record CallsLane (s : CoreState) (at : ℕ) (lane worked : State) (t : CoreState) : Type 0 where
   pub there : slice_get s.lanes at ≡ Some lane
   pub sound : IsLaneSound lane
@@ -102,12 +103,13 @@ pub record Stops (s t : CoreState) : Type 0 where
   pub spec : TaskSpec
   pub copies : spec_of s.made job.0 ≡ Some spec
   pub rev : ℕ
-  pub stopped : stopping.Stops (view_of s.board) job.0 spec.attempts (stop.Stopped rev) (view_of t.board)
+  pub stopped : stopping.Stops (view_of s.board) job.0 spec.attempts (stop.Stopped rev)
+      (view_of t.board)
   pub lawful : IsLawful t.board.words t.board.past
   pub hooks : t.hooks ≡ s.hooks ++ stop_hook job rev ∷ []
   pub after : t ≡ record s { board = t.board; hooks = t.hooks }
 
--- the marks of deliveries after the hook of this number, from 1, was delivered; a forged one has none
+-- the marks of deliveries after the hook at a place, from 0, was delivered; a forged one has none
 abbrev pub Marks : CoreState → Hook → Option ℕ → CoreState → Type 0
 Marks s hook None t = t.delivered ≡ s.delivered
 Marks s hook (Some place) t = (hook_at s.hooks (suc place) ≡ Some hook)

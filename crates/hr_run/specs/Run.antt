@@ -52,8 +52,8 @@ pub data Cut : CoreState → Event → CoreState → Type 0 where
   taking : (s m t : CoreState) → RunsRounds s m → IsSound m → TakeCut m t → Cut s event.Finish t
   turning : (s m u t : CoreState) (answer : Told) (takes : TakesTurn m answer u) → RunsRounds s m
       → IsSound m → IsSound u → StepsSome takes.turn.job u t → Cut s event.Finish t
-  stepping : (s m t : CoreState) (turn : Turn) → slice_get m.turns.out 0 ≡ Some turn → RunsRounds s m
-      → IsSound m → StepsSome turn.job m t → Cut s event.Finish t
+  stepping : (s m t : CoreState) (turn : Turn) → slice_get m.turns.out 0 ≡ Some turn
+      → RunsRounds s m → IsSound m → StepsSome turn.job m t → Cut s event.Finish t
   delivering : (s m t : CoreState) → RunsRounds s m → IsSound m → GoesOut m taken.Idle m
       → DeliversSome 0 m t → Cut s event.Finish t
 

@@ -1,4 +1,4 @@
--- What the board, the queue, the store and the lanes of the core keep to at every moment. (Our own.)
+-- What the board, the queue, the store and the lanes keep to at every moment. (Our own.)
 use Rattle.std.specs.List.{AllByRecursion}
 use Rattle.hr_board.specs.Plain.{IsLawful}
 use Rattle.hr_queue.specs.Whole.{IsWhole}

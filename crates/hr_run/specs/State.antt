@@ -63,7 +63,8 @@ spec_of made (suc at) = slice_get made at
 abbrev pub queued_from : ℕ → List TaskSpec → List Queued
 queued_from before [] = []
 queued_from before (spec ∷ specs) =
-    record { job = record { 0 = suc before }; attempts = spec.attempts } ∷ queued_from (suc before) specs
+    record { job = record { 0 = suc before }; attempts = spec.attempts }
+    ∷ queued_from (suc before) specs
 
 -- the lane that has a task, by its place from 0: there is one
 abbrev pub lane_of : List State → TaskSpec → ℕ

@@ -26,7 +26,8 @@ pub record StopsJob (s : CoreState) (job : JobNo) (answer : Told) (t : CoreState
   pub row : RowState
   pub there : row_of_job job.0 s.store.kept ≡ Some row
   pub rev : ℕ
-  pub stops : stopping.Stops (view_of s.board) job.0 row.spec.attempts (stop.Stopped rev) (view_of t.board)
+  pub stops : stopping.Stops (view_of s.board) job.0 row.spec.attempts (stop.Stopped rev)
+      (view_of t.board)
   pub tells : answer ≡ told.Stopped job rev
   pub hooks : t.hooks ≡ s.hooks ++ stop_hook job rev ∷ []
   pub after : t ≡ record s { board = t.board; hooks = t.hooks }
@@ -37,12 +38,14 @@ pub record FindsFinal (s : CoreState) (job : JobNo) (answer : Told) (t : CoreSta
   pub there : row_of_job job.0 s.store.kept ≡ Some row
   pub rev : ℕ
   pub status : Status
-  pub stops : stopping.Stops (view_of s.board) job.0 row.spec.attempts (stop.Final rev status) (view_of t.board)
+  pub stops : stopping.Stops (view_of s.board) job.0 row.spec.attempts (stop.Final rev status)
+      (view_of t.board)
   pub tells : answer ≡ told.FinalAt job rev status
   pub after : t ≡ record s { board = t.board }
 
 -- the word of a revision was looked at
-pub record LooksAt (s : CoreState) (job : JobNo) (rev : ℕ) (answer : Told) (t : CoreState) : Type 0 where
+pub record LooksAt (s : CoreState) (job : JobNo) (rev : ℕ) (answer : Told) (t : CoreState)
+    : Type 0 where
   pub row : RowState
   pub there : row_of_job job.0 s.store.kept ≡ Some row
   pub mark : Mark

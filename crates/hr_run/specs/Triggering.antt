@@ -1,5 +1,5 @@
 -- What a trigger does: it plans a policy into an execution. (Our own, after Harbor's job service.)
-use Rattle.std.specs.Prelude.{◌≡◌, ℕ, List, [], ◌++◌, length, Option, Some, None, Ok, Err}
+use Rattle.std.specs.Prelude.{◌≡◌, ◌≢◌, ℕ, List, [], ◌++◌, length, Option, Some, None, Ok, Err}
 use Rattle.hr_base.specs.declared.number.ExecNo.{ExecNo}
 use Rattle.hr_base.specs.declared.number.Moment.{Moment}
 use Rattle.hr_base.specs.declared.number.PolicyNo.{PolicyNo}
@@ -27,14 +27,16 @@ pub record Reserves (s t : CoreState) : Type 0 where
   pub after : t ≡ record s { turns = t.turns }
 
 -- an execution was made with these tasks, and its jobs were added to the queue
-pub record Creates (s : CoreState) (specs : List TaskSpec) (answer : Told) (t : CoreState) : Type 0 where
+pub record Creates (s : CoreState) (specs : List TaskSpec) (answer : Told) (t : CoreState)
+    : Type 0 where
   pub planned : s.plan ≡ Some specs
   pub mid : CoreState
   pub reserved : Reserves s mid
   pub sound : IsSound mid
   pub exec : ExecNo
   pub created : CreatesExec s.store (record { 0 = 1 }) Manual specs (moment_of s) (Ok exec) t.store
-  pub adds : Adds mid.turns (view_of s.board) (queued_from (length s.made) specs) t.turns (view_of t.board)
+  pub adds : Adds mid.turns (view_of s.board) (queued_from (length s.made) specs) t.turns
+      (view_of t.board)
   pub made : t.made ≡ s.made ++ specs
   pub tells : answer ≡ told.Created exec (length specs)
   pub after : t ≡ record mid { board = t.board; turns = t.turns; store = t.store; made = t.made }
@@ -64,7 +66,8 @@ pub record FailsToPlan (s : CoreState) (answer : Told) (t : CoreState) : Type 0 
 
 -- a trigger of a policy: there is policy 1 alone
 pub data Triggers (s : CoreState) (policy : PolicyNo) (answer : Told) (t : CoreState) : Type 0 where
-  no_policy : (policy.0 ≡ 1 → ⊥) → answer ≡ told.NoPolicy policy → t ≡ s → Triggers s policy answer t
+  no_policy : policy.0 ≢ 1 → answer ≡ told.NoPolicy policy → t ≡ s → Triggers s policy answer t
   fails : policy.0 ≡ 1 → FailsToPlan s answer t → Triggers s policy answer t
-  creates : (specs : List TaskSpec) → policy.0 ≡ 1 → Creates s specs answer t → Triggers s policy answer t
+  creates : (specs : List TaskSpec) → policy.0 ≡ 1 → Creates s specs answer t
+      → Triggers s policy answer t
   is_full : policy.0 ≡ 1 → IsFull s answer t → Triggers s policy answer t

@@ -1,5 +1,5 @@
--- What is done with a turn: it is taken and admitted to its lane, stepped, and given back. (Our own,
--- after Harbor's job service.)
+-- What is done with a turn: it is taken and admitted to its lane, stepped, and given back. (Our
+-- own, after Harbor's job service.)
 use Rattle.std.specs.Prelude.{◌≡◌, ◌⊎◌, ℕ, List, Some, None, IsSome}
 use Rattle.std.specs.List.{AllByRecursion, Contains}
 use Rattle.hr_base.specs.declared.number.JobNo.{JobNo}
@@ -63,7 +63,8 @@ pub record AdmitsTurn (s : CoreState) (turn : Turn) (answer : Told) (t : CoreSta
   pub worked : State
   pub came : Admit
   pub calls : CallsLane s (lane_of s.lanes row.spec) lane worked t
-  pub admits : AdmitsWord lane worked (by_turn turn row.spec) (view_of s.board) (view_of t.board) came
+  pub admits : AdmitsWord lane worked (by_turn turn row.spec) (view_of s.board) (view_of t.board)
+      came
   pub tells : AdmitTells turn came answer
 
 -- the row of the turn's job was swept: no lane is asked, and the word found is told

@@ -11,7 +11,8 @@ use Rattle.hr_run.specs.State.{hook_place, status_word}
 
 -- what a hook of a final status weighs, by the weight of its place and word; others weigh nothing
 abbrev pub final_weight : (Place × Word → ℕ) → Hook → ℕ
-final_weight f hook = cond (nat_le 4 (status_word hook.status)) (f (hook_place hook, status_word hook.status)) 0
+final_weight f hook =
+    cond (nat_le 4 (status_word hook.status)) (f (hook_place hook, status_word hook.status)) 0
 
 -- what the hook of a stop weighs; others weigh nothing
 abbrev pub stop_weight : (Hook → ℕ) → Hook → ℕ
