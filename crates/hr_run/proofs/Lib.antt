@@ -12,3 +12,4 @@ mod StepLemmas
 mod FinishLemmas
 mod PromiseLemmas
 mod TellLemmas
+mod AnswerLemmas

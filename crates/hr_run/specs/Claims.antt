@@ -4,11 +4,15 @@ use Rattle.std.specs.Prelude.{◌≡◌, ◌≢◌, ℕ, ◌+◌, ◌<◌, ◌�
 use Rattle.std.specs.List.{Contains, sum_by}
 use Rattle.hr_base.specs.Merge.{joined}
 use Rattle.hr_base.specs.declared.status.Hook.{Hook}
+use Rattle.hr_base.specs.Status.{word_of}
 use Rattle.hr_base.specs.declared.status.Status.{Status}
+use Rattle.hr_base.specs.declared.status.Status.TheVariants.{Stopped}
 use Rattle.hr_event.specs.declared.cause.Cause.{Cause}
 use Rattle.hr_event.specs.declared.entry.Entry.{Entry}
 use Rattle.hr_event.specs.declared.entry.What.TheVariants.{Ended}
 use Rattle.hr_event.specs.declared.task.TaskSpec.{TaskSpec}
+use Rattle.hr_event.specs.declared.told.Told.{Told}
+use Rattle.hr_event.specs.declared.told.Told.TheVariants as told
 use Rattle.hr_board.specs.Current.{IsCurrent}
 use Rattle.hr_board.specs.Over.{EndsJob, IsOver}
 use Rattle.hr_board.specs.Plain.{Plain}
@@ -75,6 +79,16 @@ pub record RowsTell (s : CoreState) : Type 0 where
       ≡ status_word (joined row.received).1
   pub over : (job : ℕ) (row : RowState) → row_of_job job s.store.kept ≡ Some row
       → EndsJob row.spec.attempts (joined row.received) → IsOver s.board.words job row.spec.attempts
+
+-- an answer that tells a status of a revision tells its word: that of a row does at a final status
+abbrev pub TellsWord : Plain → Told → Type 0
+TellsWord board (told.Stopped job rev) = word_at board (place_of job.0 rev) ≡ status_word Stopped
+TellsWord board (told.FinalAt job rev status) =
+    word_at board (place_of job.0 rev) ≡ status_word status
+TellsWord board (told.WordIs job rev mark) = word_at board (place_of job.0 rev) ≡ word_of mark
+TellsWord board (told.RowIs job rev status) = 4 ≤ status_word status
+    → word_at board (place_of job.0 rev) ≡ status_word status
+TellsWord board _ = Unit {0}
 
 -- nothing is left to do: no turn waits or is out, and each emitted hook was delivered
 pub record IsFinished (s : CoreState) : Type 0 where

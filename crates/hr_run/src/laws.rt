@@ -13,7 +13,7 @@ ghost use Rattle.hr_session.specs.Holds.{LaneHolds, LaneRuns};
 ghost use Rattle.hr_session.specs.Lane.{IsLaneSound};
 ghost use Rattle.hr_store.specs.Row.{RowState};
 ghost use Rattle.hr_store.specs.Store.{row_of_job};
-ghost use Rattle.hr_run.specs.Claims.{AllConfirmed, AllDone, IsFinished, LanesHold, LanesRun, OneEach, OneFinal, RowsTell};
+ghost use Rattle.hr_run.specs.Claims.{AllConfirmed, AllDone, IsFinished, LanesHold, LanesRun, OneEach, OneFinal, RowsTell, TellsWord};
 ghost use Rattle.hr_run.specs.Delivering.{Sweeps};
 ghost use Rattle.hr_run.specs.Finish.{Finishes};
 ghost use Rattle.hr_run.specs.Holds.{HasAttempts, Holds};
@@ -178,4 +178,13 @@ pub fn swept_jobs_are_over()
 {
     row_ends_its_job();
     sweep_drops_rows_that_are_over();
+}
+
+/// A law: each answer that tells a status of a revision tells its word: that a stop stopped it, or
+/// found it final; what a look found; and a row at a final status.
+pub fn answers_tell_words()
+    ensures { (s t : CoreState) (event : Event) (answers : List Told)
+        → Holds s → IsSound t → Does s event answers t → AllByRecursion (TellsWord t.board) answers }
+{
+    rows_tell_words();
 }
