@@ -1,14 +1,12 @@
 -- What answers tell of a revision is its word.
-use Rattle.std.proofs.Common.{◌≡◌, ◌⊎◌, inl, inr, refl, sym, ap, subst, ◌∙◌, zero, suc, ℕ, ◌+◌, ◌<◌, ◌≤◌, List, [], ◌∷◌, ◌++◌, map, arith}
+use Rattle.std.proofs.Common.{◌≡◌, inl, inr, refl, sym, ap, subst, ◌∙◌, zero, suc, ℕ, ◌≤◌, List, [], ◌∷◌, ◌++◌, map, arith}
 use Rattle.std.proofs.lemmas.List.Elements.{Contains-append_right}
 use Rattle.std.specs.Prelude.{Option, Some, None, unwrap_or, option_map}
-use Rattle.std.specs.List.{AllByRecursion, Contains}
-use Rattle.hr_base.specs.Merge.{joined}
-use Rattle.hr_base.specs.Status.{IsFinal, word_of}
+use Rattle.std.specs.List.{AllByRecursion}
+use Rattle.hr_base.specs.Status.{IsFinal}
 use Rattle.hr_base.specs.declared.number.ExecNo.{ExecNo}
 use Rattle.hr_base.specs.declared.number.JobNo.{JobNo}
 use Rattle.hr_base.specs.declared.number.PolicyNo.{PolicyNo}
-use Rattle.hr_base.specs.declared.number.RegNo.{RegNo}
 use Rattle.hr_base.specs.declared.status.Status.{Status}
 use Rattle.hr_base.specs.declared.status.Status.TheVariants as status
 use Rattle.hr_event.specs.declared.cause.Cause.{Cause}
@@ -20,7 +18,7 @@ use Rattle.hr_event.specs.declared.told.Told.TheVariants as told
 use Rattle.hr_adapter.specs.Calls.{shown_of}
 use Rattle.hr_adapter.specs.Reg.{Reg}
 use Rattle.hr_adapter.specs.declared.listed.TagNow.{TagNow}
-use Rattle.hr_board.specs.Plain.{Plain, view_of}
+use Rattle.hr_board.specs.Plain.{Plain}
 use Rattle.hr_board.specs.View as board
 use Rattle.hr_board.specs.View.{Noted, Notes, Place, Word, place_of}
 use Rattle.hr_line.specs.State.{link_at}
