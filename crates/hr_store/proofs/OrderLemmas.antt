@@ -1,5 +1,5 @@
 -- Lemmas on executions in order, and on the rows of a new one.
-use Rattle.std.proofs.Common.{◌≡◌, ℕ, ◌+◌, ◌-◌, ◌<◌, ◌≤◌, List, [], ◌∷◌, ◌++◌, length, None, ap, ◌∙◌, inl, inr, arith, suc, refl}
+use Rattle.std.proofs.Common.{◌≡◌, ℕ, ◌+◌, ◌-◌, ◌<◌, ◌≤◌, List, [], ◌∷◌, ◌++◌, length, None, Some, ap, ◌∙◌, inl, inr, arith, suc, refl}
 use Rattle.std.proofs.lemmas.Bool.Decides.{eqb_tells}
 use Rattle.hr_store.specs.Creating.{new_rows}
 use Rattle.hr_store.specs.Execution.{ExecState, last_job}
@@ -73,4 +73,12 @@ unmade made jobs number [] m l = refl
 unmade made jobs number (e ∷ es) m l = elim (eqb_tells e.exec number) [
   | inl q ↦ absurd (omega (arith, q.1, m.0.0, l))
   | inr q ↦ rw q.0 (unmade made jobs number es m.1 l)
+]
+
+-- one of a number that was not made is found at the end
+pub newest : (made jobs : ℕ) (es : List ExecState) (e : ExecState) → AreMade made jobs es → made < e.exec → exec_numbered e.exec (es ++ e ∷ []) ≡ Some e
+newest made jobs [] e m l = elim (eqb_tells e.exec e.exec) [ inl q ↦ rw q.0 refl | inr q ↦ absurd (q.1 refl) ]
+newest made jobs (u ∷ us) e m l = elim (eqb_tells u.exec e.exec) [
+  | inl q ↦ absurd (omega (arith, q.1, m.0.0, l))
+  | inr q ↦ rw q.0 (newest made jobs us e m.1 l)
 ]

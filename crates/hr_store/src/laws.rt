@@ -1,5 +1,5 @@
 //! Laws of the store, for whoever states what holds of its jobs. (Our own.)
-ghost use Rattle.std.specs.Prelude.{◌≡◌, ◌≤◌, ◌↔◌, ℕ, List, Bool, IsTrue};
+ghost use Rattle.std.specs.Prelude.{◌≡◌, ◌<◌, ◌≤◌, ◌↔◌, ℕ, List, [], ◌∷◌, ◌++◌, Bool, Some, IsTrue};
 ghost use Rattle.std.specs.List.{AllByRecursion, Contains};
 ghost use Rattle.std.specs.Option.{option_map};
 ghost use Rattle.hr_base.specs.declared.status.Hook.{Hook};
@@ -9,7 +9,7 @@ ghost use Rattle.hr_board.specs.View.{View, Word};
 ghost use Rattle.hr_store.specs.Execution.{ExecState};
 ghost use Rattle.hr_store.specs.Laws.{Goes, RowIsOver, RowStays, Stays, TakenIsPut};
 ghost use Rattle.hr_store.specs.Row.{ends_job, is_among};
-ghost use Rattle.hr_store.specs.Store.{AreOrdered, FailsBare, StoreState, execs_hearing, row_hearing, row_of_job};
+ghost use Rattle.hr_store.specs.Store.{AreMade, AreOrdered, FailsBare, StoreState, exec_numbered, execs_hearing, row_hearing, row_of_job};
 ghost use Rattle.hr_store.specs.Sweeping.{ended_of, kept_by};
 
 /// A law: after a hook the row of each job is as before, but that of the hook's own job received it.
@@ -29,6 +29,13 @@ pub fn a_taken_hook_is_put()
 pub fn is_among_says_contains()
     ensures { (hooks : List Hook) (hook : Hook)
         → IsTrue (is_among hooks hook) ↔ Contains hooks hook }
+{}
+
+/// A law: an execution of a number above all that were made is found where it is put at the end.
+pub fn a_new_execution_is_found()
+    ensures { (made jobs : ℕ) (execs : List ExecState) (exec : ExecState)
+        → AreMade made jobs execs → made < exec.exec
+        → exec_numbered exec.exec (execs ++ exec ∷ []) ≡ Some exec }
 {}
 
 /// A law: a sweep keeps exactly the executions that have not ended and, of those of each policy that

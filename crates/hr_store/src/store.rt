@@ -65,6 +65,13 @@ impl Store {
         }
     }
 
+    /// How many jobs it may make, which a board that it is used with must have.
+    pub fn limit(&self) -> u32
+        ensures { result ≡ self.now.limit }
+    {
+        self.limit
+    }
+
     /// Makes an execution of a policy, with a job and a row for each task, in order: no hook was
     /// received for it. It takes the room for all hooks that these jobs can have. `Full` where the
     /// jobs would pass the number of the store, or it has made 4,294,967,295 executions; after an
