@@ -11,10 +11,11 @@ use Rattle.hr_event.specs.declared.task.Turn.{Turn}
 use Rattle.hr_queue.specs.declared.fate.Fate.{Fate}
 use Rattle.hr_queue.specs.declared.fate.Fate.TheVariants as fate
 
--- where the word of a turn stands, and that of the revision after it
+-- where the word of a turn stands
 abbrev pub place_at : Turn → Place
 place_at t = place_of t.job.0 t.rev
 
+-- where the word of the revision after a turn's stands
 abbrev pub place_after : Turn → Place
 place_after t = place_of t.job.0 (t.rev + 1)
 

@@ -1,5 +1,5 @@
-//! The queue of turns: which revision of which job is next, and what becomes of a turn that is given
-//! back. Start with `queue`.
+//! The queue of turns: which revision of which job is next, and what becomes of a turn that is
+//! given back. Start with `queue`.
 #![tactic(auto)]
 
 mod answer;

@@ -144,8 +144,8 @@ impl Queue {
         }
     }
 
-    /// The next turn at this moment, which is then out: of the delayed turns that are due the one with
-    /// the least moment and then job number, else the first waiting one.
+    /// The next turn at this moment, which is then out: of the delayed turns that are due the one
+    /// with the least moment and then job number, else the first waiting one.
     pub fn take(&mut self, now: Moment) -> Taken
         ensures { Takes now.0 self.old result self.new }
     {
@@ -160,8 +160,10 @@ impl Queue {
         rest(&self.delayed, &self.out)
     }
 
-    /// Takes back the turn of a job and revision that is out. What becomes of it goes by its word, and
-    /// by the attempts with which its job was added.
+    /// Takes back the turn of a job and revision that is out. What becomes of it goes by its word,
+    /// and by the attempts with which its job was added: `Back` where the word isn't final; `Again`,
+    /// 10, 20 or 40 seconds later, where it is `Error` with an attempt left; else `Done`, also where
+    /// the next attempt was stopped before it began.
     pub fn settle<B: Board>(&mut self, board: &mut B, turn: Turn, now: Moment) -> Settled
         requires job { turn.job.0 ≤ (B.seen board.old).jobs }
         requires allowed { ServesQueue (B.seen board.old) }
