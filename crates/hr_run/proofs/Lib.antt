@@ -1,0 +1,15 @@
+mod ListLemmas
+mod MarkLemmas
+mod LaneLemmas
+mod RowLemmas
+mod KeepsLemmas
+mod OpeningLemmas
+mod WordLemmas
+mod JoinLemmas
+mod DoneLemmas
+mod RunLemmas
+mod StepLemmas
+mod FinishLemmas
+mod PromiseLemmas
+mod TellLemmas
+mod AnswerLemmas

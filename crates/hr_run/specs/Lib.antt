@@ -1,0 +1,13 @@
+pub mod State
+pub mod Weight
+pub mod Holds
+pub mod Part
+pub mod Claims
+pub mod Sound
+pub mod Triggering
+pub mod Turning
+pub mod Stopping
+pub mod Delivering
+pub mod Does
+pub mod Finish
+pub mod Run
