@@ -1,0 +1,3 @@
+mod NameLemmas
+mod ReadingLemmas
+pub mod ReadingLaws

@@ -1,0 +1,6 @@
+-- What was copied so far.
+use Rattle.std.proofs.Common.{◌≡◌, take}
+use Rattle.hr_call.proofs.answer.copy_names.Given as goal
+
+abbrev pub invariant-loop-name : goal.invariant-loop-name
+invariant-loop-name l = l.made ≡ take l.name-index l.names
