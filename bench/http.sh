@@ -1,8 +1,9 @@
 #!/bin/sh
 # How fast replies are read off the standard input: 20,000 with ten field lines and two bytes of body,
 # and two of 256 MiB, of a known length and in chunks of 65,536 bytes, through a buffer of 65,536
-# bytes. Beside it Python's http.client reads the same bytes; and the peak memory of each. The least
-# of three runs counts. Usage: sh bench/http.sh
+# bytes. Beside it Python's http.client and, where Debian's libhttp-parser-dev is installed, the C
+# parser of Node.js read the same bytes; and our peak memory. The least of three runs counts.
+# Usage: sh bench/http.sh
 set -eu
 . "$(dirname "$0")/scratch.sh"
 with_crates "anyhow hr_cause hr_http1" hr_base hr_cause hr_body hr_frame hr_head hr_http1
@@ -100,15 +101,65 @@ while sys.stdin.buffer.peek(1):
 spent = time.perf_counter_ns() - start
 print(replies, size, spent // 10**9, spent % 10**9)
 PYTHON
+cat >"$scratch/parser.c" <<'C'
+/* Reads all the replies of standard input with http_parser, and prints as the other programs do. */
+#include <http_parser.h>
+#include <stdio.h>
+#include <string.h>
+#include <time.h>
+#include <unistd.h>
+
+static unsigned long replies, bytes, lines;
+
+static int field(http_parser *parser, const char *at, size_t length) {
+    lines += length;
+    return 0;
+}
+
+static int body(http_parser *parser, const char *at, size_t length) {
+    bytes += length;
+    return 0;
+}
+
+static int complete(http_parser *parser) {
+    replies++;
+    return 0;
+}
+
+int main(void) {
+    static char buf[65536];
+    struct timespec start, end;
+    http_parser parser;
+    http_parser_settings settings;
+    ssize_t count;
+    http_parser_settings_init(&settings);
+    settings.on_header_field = field;
+    settings.on_header_value = field;
+    settings.on_body = body;
+    settings.on_message_complete = complete;
+    http_parser_init(&parser, HTTP_RESPONSE);
+    clock_gettime(CLOCK_MONOTONIC, &start);
+    while ((count = read(0, buf, sizeof buf)) > 0)
+        if (http_parser_execute(&parser, &settings, buf, count) != (size_t)count)
+            return 1;
+    clock_gettime(CLOCK_MONOTONIC, &end);
+    long spent = (end.tv_sec - start.tv_sec) * 1000000000L + end.tv_nsec - start.tv_nsec;
+    printf("%lu %lu %ld %ld\n", replies, bytes, spent / 1000000000L, spent % 1000000000L);
+    return 0;
+}
+C
 cat >"$scratch/table.py" <<'PYTHON'
-"""Runs both programs on each input, and prints the least of three runs and the peak memory."""
+"""Runs the programs on each input, and prints the least of three runs and our peak memory."""
 import os, subprocess, sys
 
 folder, ours = sys.argv[1], sys.argv[2]
-print("%-8s %10s %12s %14s %12s %14s" % ("input", "replies/s", "MB/s", "peak KB", "Python's /s", "Python's MB/s"))
+commands = {"ours": [ours], "Python's": [sys.executable, folder + "/client.py"]}
+if os.path.exists(folder + "/parser"):
+    commands["in C"] = [folder + "/parser"]
+print("%-8s %-9s %10s %8s %8s" % ("input", "parser", "replies/s", "MB/s", "peak KB"))
 for name in ("small", "sized", "chunked"):
-    best = []
-    for command in ([ours], [sys.executable, folder + "/client.py"]):
+    wanted = None
+    for whose, command in commands.items():
         rows = []
         for _ in range(3):
             with open(f"{folder}/{name}", "rb") as source:
@@ -118,12 +169,12 @@ for name in ("small", "sized", "chunked"):
                 assert status == 0
             replies, size, seconds, rest = map(int, words)
             rows.append((int(seconds) + int(rest) / 1e9, replies, size, usage.ru_maxrss))
-        best.append(min(rows))
-    (time, replies, size, peak), (python, same, length, _) = best
-    assert (replies, size) == (same, length)
-    print("%-8s %10d %12d %14d %12d %14d"
-          % (name, replies / time, size / time / 1e6, peak, replies / python, size / python / 1e6))
+        time, replies, size, peak = min(rows)
+        wanted = wanted or (replies, size)
+        assert (replies, size) == wanted
+        print("%-8s %-9s %10d %8d %8d" % (name, whose, replies / time, size / time / 1e6, peak))
 PYTHON
 python3 "$scratch/make.py" "$scratch"
+cc -O2 -o "$scratch/parser" "$scratch/parser.c" -lhttp_parser 2>/dev/null || true
 (cd "$scratch/crates/timing" && rt run <"$scratch/small" >/dev/null)
 python3 "$scratch/table.py" "$scratch" "$scratch/crates/timing/out/timing"
