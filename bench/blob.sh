@@ -10,7 +10,7 @@ cat >"$scratch/crates/timing/src/main.rt" <<'RATTLE'
 #![tactic(auto)]
 
 use anyhow::{Result, bail};
-use hr_base::{Bytes, List};
+use hr_base::{Bytes, List, PIECE};
 use hr_blob::copy_blob;
 use hr_digest::Digest;
 use hr_memreg::{BlobAt, Content, MemRegistry, RepoContent};
@@ -19,7 +19,15 @@ use std::alloc::Global;
 use std::rt::Clock;
 use std::time::Instant;
 
-const SIZE: usize = 67_108_864;
+/// So many pieces, one after the other.
+fn filled(alloc: Global, pieces: u32) -> Result<Vec<u8>> {
+    let piece = vec![in alloc; b'a'; PIECE]?;
+    let mut bytes = Vec::with_capacity(alloc, (pieces as usize).saturating_mul(PIECE))?;
+    for _ in 0..pieces {
+        bytes.extend_from_slice(piece.as_slice())?;
+    }
+    Ok(bytes)
+}
 
 fn source(alloc: Global, repo: &Name, bytes: Bytes, digest: Digest) -> Result<MemRegistry> {
     let mut blobs = List::new(alloc);
@@ -45,34 +53,54 @@ fn source(alloc: Global, repo: &Name, bytes: Bytes, digest: Digest) -> Result<Me
     }
 }
 
+/// Copies the blob to a new registry.
+fn copy(
+    alloc: Global,
+    from: &mut MemRegistry,
+    repo: &Name,
+    digest: &Digest,
+    size: u64,
+    buf: &mut [u8],
+) -> Result<()> {
+    if buf.len() != PIECE {
+        bail!("the buffer has another length");
+    }
+    let Ok(mut to) = MemRegistry::new(alloc, Content { repos: List::new(alloc) }) else {
+        bail!("no room for a registry");
+    };
+    if copy_blob(from, &mut to, repo, repo, digest, size, buf).is_err() {
+        bail!("the blob is not copied");
+    }
+    Ok(())
+}
+
 fn main(rt: HostRuntime) -> Result<()> {
     let alloc = rt.alloc();
     let Ok(repo) = Name::read(alloc, b"library/one".as_slice()) else {
         bail!("a name is refused");
     };
-    let filled = vec![in alloc; b'a'; SIZE]?;
+    let filled = filled(alloc, 1024)?;
+    let size = filled.len() as u64;
     let start = Instant::now(&rt)?;
     let digest = Digest::of(filled.as_slice());
-    let hashing = start.elapsed(&rt)?.as_micros().max(1);
+    let hashing = start.elapsed(&rt)?;
+    let (s, n) = (hashing.as_secs(), hashing.subsec_nanos());
     let mut from = source(alloc, &repo, Bytes::from(filled), digest)?;
-    let mut buf = vec![in alloc; 0u8; 65536]?;
+    let mut buf = vec![in alloc; 0u8; PIECE]?;
     for _ in 0..5u32 {
-        let Ok(mut to) = MemRegistry::new(alloc, Content { repos: List::new(alloc) }) else {
-            bail!("no room for a registry");
-        };
         let start = Instant::now(&rt)?;
-        let copied = copy_blob(&mut from, &mut to, &repo, &repo, &digest, SIZE as u64, buf.as_mut_slice());
-        let copying = start.elapsed(&rt)?.as_micros().max(1);
-        if copied.is_err() {
-            bail!("the blob is not copied");
-        }
-        println!(rt; "hashing {hashing:>7} us, copying {copying:>7} us")?;
+        copy(alloc, &mut from, &repo, &digest, size, buf.as_mut_slice())?;
+        let copying = start.elapsed(&rt)?;
+        let (t, m) = (copying.as_secs(), copying.subsec_nanos());
+        println!(rt; "{s} {n} {t} {m}")?;
     }
     Ok(())
 }
 RATTLE
 cd "$scratch/crates/timing"
-rt run
+rt run >"$scratch/times"
+awk '{ printf "hashing %d us, copying %d us\n", $1 * 1000000 + $2 / 1000, $3 * 1000000 + $4 / 1000 }' \
+    "$scratch/times"
 if command -v python3 >/dev/null; then
     python3 - <<'PYTHON'
 import resource, subprocess
