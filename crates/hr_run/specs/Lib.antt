@@ -11,3 +11,4 @@ pub mod Delivering
 pub mod Does
 pub mod Finish
 pub mod Run
+pub mod Ready
