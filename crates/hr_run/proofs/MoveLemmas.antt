@@ -1,6 +1,6 @@
 -- What each event does to lanes, plan, jobs, rows and hooks, move by move.
 use Rattle.std.proofs.Common.{◌≡◌, inl, inr, refl, sym, ap, subst, ◌∙◌, zero, suc, ℕ, Bool, true, false, List, [], ◌∷◌, ◌++◌, arith}
-use Rattle.std.specs.Prelude.{Option, Some, None}
+use Rattle.std.specs.Prelude.{Some, None}
 use Rattle.hr_base.specs.declared.number.ExecNo.{ExecNo}
 use Rattle.hr_base.specs.declared.number.JobNo.{JobNo}
 use Rattle.hr_base.specs.declared.number.PolicyNo.{PolicyNo}
@@ -11,7 +11,7 @@ use Rattle.hr_event.specs.declared.task.TaskSpec.{TaskSpec}
 use Rattle.hr_event.specs.declared.told.Told.{Told}
 use Rattle.hr_event.specs.declared.view.Received.{Received}
 use Rattle.hr_event.specs.declared.view.Trigger.TheVariants.{Manual}
-use Rattle.hr_board.specs.Plain.{Plain, view_of}
+use Rattle.hr_board.specs.Plain.{view_of}
 use Rattle.hr_board.specs.View as board
 use Rattle.hr_line.specs.State.{State}
 use Rattle.hr_line.specs.declared.answer.Admit.{Admit}
@@ -28,9 +28,9 @@ use Rattle.hr_store.specs.Sweeping.{SweepsEnded}
 use Rattle.hr_run.specs.Arrives.{RunsThrough}
 use Rattle.hr_run.specs.Delivering.{Delivers, Forges, Sweeps}
 use Rattle.hr_run.specs.Does.{DeliversNumber, DoesOne}
-use Rattle.hr_run.specs.Finish.{DeliversFrom, Finishes, Rounds, RunsRounds, RunsTurn, StepsOut}
+use Rattle.hr_run.specs.Finish.{DeliversFrom, Finishes, Rounds, RunsRounds, StepsOut}
 use Rattle.hr_run.specs.Part.{CallsLane}
-use Rattle.hr_run.specs.Run.{Cut, DeliversSome, Does, Runs, StepsSome, TakeCut}
+use Rattle.hr_run.specs.Run.{Cut, DeliversSome, Does, Runs, StepsSome}
 use Rattle.hr_run.specs.State.{CoreState}
 use Rattle.hr_run.specs.Triggering.{Creates, FailsToPlan, Triggers, moment_of}
 use Rattle.hr_run.specs.Triggering.Triggers.{creates, fails, is_full, no_policy}
@@ -243,7 +243,7 @@ module _ (b : Bool) where
   finishes s t h = then s h.mid t (rounds s h.mid h.rounds) (delivers_from 0 h.mid t h.delivers)
 
 -- an event stops a job
-pub is_stop : Event → Bool
+abbrev pub is_stop : Event → Bool
 is_stop (event.Stop job) = true
 is_stop _ = false
 
@@ -311,7 +311,7 @@ module _ (P : CoreState → Type 0) (each : (stops : Bool) (s t : CoreState) →
   keep_does s t e answers h p = keep (is_stop e) s t (does_moves s t e answers h) p
 
   pub keep_through : (events : List Event) (s t : CoreState) (said : List Told) → RunsThrough s events said t → P s → P t
-  keep_through [] s t said (is, none) p = subst P (sym is) p
+  keep_through [] s t said (is, no_more) p = subst P (sym is) p
   keep_through (e ∷ events) s t said (mid, answers, later, does, sound, runs, is) p =
       keep_through events mid t later runs (keep_does s mid e answers does p)
 

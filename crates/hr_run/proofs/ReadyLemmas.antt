@@ -1,5 +1,5 @@
 -- What the calls of the core ask of it stays, whatever events come.
-use Rattle.std.proofs.Common.{◌≡◌, refl, sym, ap, subst, ◌∙◌, zero, suc, ℕ, ◌+◌, ◌<◌, ◌≤◌, Bool, true, false, List, [], ◌∷◌, ◌++◌, length, set, slice_get, inl, inr, arith}
+use Rattle.std.proofs.Common.{◌≡◌, refl, sym, ap, subst, ◌∙◌, zero, suc, ℕ, ◌+◌, ◌≤◌, Bool, true, false, List, [], ◌∷◌, ◌++◌, length, set, slice_get, inl, inr, arith}
 use Rattle.std.proofs.Math.ListN.{length-set}
 use Rattle.std.proofs.lemmas.Bool.Decides.{nat_tests}
 use Rattle.std.specs.List.{AllByRecursion}
@@ -165,7 +165,7 @@ heard_jobs : (a c : StoreState) (v w : View) (hook : Hook) (came : Received) →
 heard_jobs a c v w hook received.Unknown h =
     (ap (λ (x : StoreState). x.jobs) h.1, ap (λ (x : StoreState). x.limit) h.1)
 heard_jobs a c v w hook received.Swept h =
-    (ap (λ (x : StoreState). x.jobs) h.2.0, ap (λ (x : StoreState). x.limit) h.2.0)
+    (ap (λ (x : StoreState). x.jobs) h.2, ap (λ (x : StoreState). x.limit) h.2)
 heard_jobs a c v w hook (received.Unconfirmed mark) h =
     (ap (λ (x : StoreState). x.jobs) h.after_is, ap (λ (x : StoreState). x.limit) h.after_is)
 heard_jobs a c v w hook received.Raised h =
@@ -213,7 +213,7 @@ asked_each stops s t (hears v w hook came rest h) o =
 asked_each stops s t (sweeps keep count rest h) o =
     asked_same s t rest.lanes rest.plan rest.made (ap (λ (x : StoreState). x.jobs) h.after_is)
     (ap (λ (x : StoreState). x.limit) h.after_is) o
-asked_each stops s t (stopped yes h) o =
+asked_each stops s t (stopped allowed h) o =
     asked_same s t h.lanes h.plan h.made (ap (λ (x : StoreState). x.jobs) h.store) (ap (λ (x : StoreState). x.limit) h.store) o
 
 pub ready_by : (s : CoreState) → Holds s → Asked s → IsReady s
