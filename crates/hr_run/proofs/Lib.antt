@@ -15,3 +15,6 @@ mod TellLemmas
 mod AnswerLemmas
 mod MoveLemmas
 mod ReadyLemmas
+mod SourceLemmas
+mod CopiedLemmas
+mod ArriveLemmas
