@@ -1,9 +1,9 @@
 -- What succeeded was copied: a row at Success has its word, its word an entry of a lane, and the entry
 -- the tags that were finished.
-use Rattle.std.proofs.Common.{◌≡◌, inl, inr, refl, sym, ap, subst, ◌∙◌, zero, suc, ℕ, ◌<◌, ◌≤◌, Bool, true, false, cond, ◌&&◌, ◌||◌, List, [], ◌∷◌, arith}
+use Rattle.std.proofs.Common.{◌≡◌, inl, inr, refl, sym, ap, subst, ◌∙◌, zero, suc, ℕ, ◌≤◌, Bool, true, false, cond, ◌&&◌, ◌||◌, List, [], ◌∷◌, arith}
 use Rattle.std.proofs.lemmas.Bool.Decides.{nat_tests}
 use Rattle.std.specs.List.{AllByRecursion, Contains, list_any}
-use Rattle.std.specs.Prelude.{Option, Some, None, IfSome, IsSome, if◌then◌else◌, nat_eq, nat_le, not}
+use Rattle.std.specs.Prelude.{Option, Some, None, IfSome, IsSome, if◌then◌else◌, nat_eq, nat_le}
 use Rattle.hr_base.specs.Merge.{joined}
 use Rattle.hr_base.specs.declared.status.Status.{Status}
 use Rattle.hr_base.specs.declared.status.Status.TheVariants as status
@@ -20,7 +20,7 @@ use Rattle.hr_line.specs.Hooks.{hook_from}
 use Rattle.hr_line.specs.Orderly.{admitted_at}
 use Rattle.hr_line.specs.State.{State}
 use Rattle.hr_line.specs.declared.held.Admitted.{Admitted}
-use Rattle.hr_store.specs.Execution.{ExecState, any_at, is_error, is_stopped, is_success, is_unfinished, status_by}
+use Rattle.hr_store.specs.Execution.{ExecState, any_at, is_error, is_stopped, is_unfinished, status_by}
 use Rattle.hr_store.specs.Row.{RowState, row_status}
 use Rattle.hr_store.specs.Store.{row_among, row_of_job}
 use Rattle.hr_run.specs.Arrives.{ExecsSucceed, IsTaskCopied, Succeeds}
