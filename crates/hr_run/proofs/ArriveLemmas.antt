@@ -1,11 +1,11 @@
 -- What can be copied arrives: after events that stop nothing, all is over, nothing was stopped, and an
 -- error is want of memory.
-use Rattle.std.proofs.Common.{◌≡◌, ◌≢◌, ◌⊎◌, inl, inr, refl, sym, ap, subst, ◌∙◌, zero, suc, ℕ, ◌+◌, ◌<◌, ◌≤◌, Bool, true, false, ◌||◌, List, [], ◌∷◌, ◌++◌, length, map, slice_get, append_cancel_right, arith}
+use Rattle.std.proofs.Common.{◌≡◌, ◌≢◌, ◌⊎◌, inl, inr, refl, sym, ap, subst, ◌∙◌, zero, suc, ℕ, ◌+◌, ◌<◌, ◌≤◌, Bool, true, false, ◌||◌, List, [], ◌∷◌, ◌++◌, length, slice_get, arith}
 use Rattle.std.proofs.lemmas.Bool.{cases_lt, eq-eqb}
 use Rattle.std.proofs.lemmas.Bool.Decides.{nat_tests}
 use Rattle.std.proofs.lemmas.List.Sorted.{length_permutation}
 use Rattle.std.specs.List.{AllByRecursion, Contains, list_any}
-use Rattle.std.specs.Prelude.{Option, Some, None, IfSome, IsSome, if◌then◌else◌, nat_eq, slice_index}
+use Rattle.std.specs.Prelude.{Option, Some, None, IfSome, IsSome, if◌then◌else◌, nat_eq}
 use Rattle.hr_base.specs.Merge.{joined}
 use Rattle.hr_base.specs.declared.number.JobNo.{JobNo}
 use Rattle.hr_base.specs.declared.status.Hook.{Hook}
@@ -40,28 +40,28 @@ use Rattle.hr_queue.specs.View as queue
 use Rattle.hr_queue.specs.declared.answer.Taken.{Taken}
 use Rattle.hr_queue.specs.declared.answer.Taken.TheVariants as taken
 use Rattle.hr_queue.specs.declared.delayed.Delayed.{Delayed}
-use Rattle.hr_store.specs.Execution.{ExecState, any_at, exec_view, is_dropped, is_error, is_stopped, is_unfinished, last_job, status_by}
+use Rattle.hr_store.specs.Execution.{ExecState, any_at, is_error, is_stopped, is_unfinished, last_job, status_by}
 use Rattle.hr_store.specs.Receiving.{ReceivesHook}
 use Rattle.hr_store.specs.Row.{RowState, row_status}
 use Rattle.hr_store.specs.Store.{AreNumbered, AreOrdered, StoreState, execs_hearing, first_row, row_among, row_of_job}
-use Rattle.hr_store.specs.Sweeping.{kept_by}
+use Rattle.hr_store.specs.Sweeping.{is_dropped, kept_by}
 use Rattle.hr_whole.specs.Copied.{EndsWell}
-use Rattle.hr_session.specs.Arrives.{RanOutOfMemory, TaskCanArrive}
+use Rattle.hr_session.specs.Arrives.{TaskCanArrive}
 use Rattle.hr_run.specs.Arrives.{AllArrived, Arrives, AskForAll, AsksForAll, HasFinish, LanesCanCopy, LanesHaveSource, RunsThrough, Succeeds, WantedMemory}
 use Rattle.hr_run.specs.Claims.{AllDone, IsFinished, LanesHold, OneEach, word_at}
-use Rattle.hr_run.specs.Does.{DeliversNumber, DoesOne}
+use Rattle.hr_run.specs.Does.{DeliversNumber}
 use Rattle.hr_run.specs.Holds.{Holds, HoldsOut, IsTurnOut}
 use Rattle.hr_run.specs.Part.{Parts}
 use Rattle.hr_run.specs.Run.{Does}
 use Rattle.hr_run.specs.Sound.{IsSound}
 use Rattle.hr_run.specs.State.{CoreState, hook_at, spec_of, status_word, was_delivered}
-use Rattle.hr_run.specs.Turning.{GoesOut, SettlesOut, StepsJob, TakesTurn}
-use Rattle.hr_run.proofs.CopiedLemmas.{EndOf, EndedAt, end_of, ended_at}
-use Rattle.hr_run.proofs.DoneLemmas.{IsOverAt, final_hook, over_at}
+use Rattle.hr_run.specs.Turning.{GoesOut, SettlesOut, StepsJob}
+use Rattle.hr_run.proofs.CopiedLemmas.{end_of, ended_at}
+use Rattle.hr_run.proofs.DoneLemmas.{final_hook, over_at}
 use Rattle.hr_run.proofs.FinishLemmas.{delivered_stays, finish_finishes}
 use Rattle.hr_run.proofs.JoinLemmas.{word_status}
 use Rattle.hr_run.proofs.LaneLemmas.{none_given, one_given}
-use Rattle.hr_run.proofs.ListLemmas.{all_append, all_at, all_member, all_then, get_at, get_is, get_within, there_at, there_first, there_later}
+use Rattle.hr_run.proofs.ListLemmas.{all_append, all_at, all_member, all_then, get_at, get_within, there_first, there_later}
 use Rattle.hr_run.proofs.MarkLemmas.{attempts_each}
 use Rattle.hr_run.proofs.MoveLemmas.{LaneDid, Move, Moves, does_moves, is_stop, keep_moves}
 use Rattle.hr_run.proofs.MoveLemmas.LaneDid.{admits, steps}
@@ -267,10 +267,7 @@ finished_on s t event.Finish answers more asks o h so = inl (finish_finishes s t
 finished_on s t (event.Trigger policy) answers more asks o h so = inr asks
 finished_on s t (event.Stop job) answers more asks o h so = absurd asks
 finished_on s t event.Due answers more asks o h so = absurd h
-finished_on s t e answers more asks o h (inr has) = inr (later e has)
-  where
-    later : (e : Event) → HasFinish (e ∷ more) → HasFinish more
-    later e has = has
+finished_on s t e answers more asks o h (inr has) = inr has
 finished_on s t event.Take answers more asks o (answer, is, inl h) (inl f) =
     absurd (none_taken s.now s.turns (h.mid).turns h.turn f.waiting f.delayed h.out.takes)
 finished_on s t event.Take answers more asks o (answer, is, inr h) (inl f) = inl (finished_goes s t h.came h.rests f)
@@ -388,7 +385,7 @@ module _ (opened : List State) (specs : List TaskSpec) (each : AllByRecursion (L
       ap (λ (k : ℕ). word_at t.board (place_of job k)) (let e : n + 1 ≡ suc n = omega arith in e) ∙ before in
       first_error job n (omega (arith, less)) (λ z. omega (arith, z, next))
 
-  Came : ℕ → Type 0
+  abbrev Came : ℕ → Type 0
   Came job = (word_at t.board (place_of job 0) ≡ 6) ⊎ WantedMemory t.lanes
 
   came_final : (word : ℕ) → 4 ≤ word → word ≤ 6 → (word ≡ 4) ⊎ ((word ≡ 5) ⊎ (word ≡ 6))
@@ -419,7 +416,7 @@ module _ (opened : List State) (specs : List TaskSpec) (each : AllByRecursion (L
       came_at job (over.row).0 (word_at t.board (place_of job (over.row).0)) at.within refl
       (let w = at.word in let f = at.final in omega (arith, w, f)) valid
 
-  All : List TaskSpec → ℕ → Type 0
+  abbrev All : List TaskSpec → ℕ → Type 0
   All made before = (place : ℕ) (spec : TaskSpec) → slice_get made place ≡ Some spec
       → word_at t.board (place_of (before + place + 1) 0) ≡ 6
 
