@@ -18,3 +18,4 @@ mod ReadyLemmas
 mod SourceLemmas
 mod CopiedLemmas
 mod ArriveLemmas
+mod TextLemmas

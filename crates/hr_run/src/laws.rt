@@ -5,6 +5,7 @@ ghost use Rattle.std.specs.List.{AllByRecursion};
 ghost use Rattle.hr_event.specs.declared.event.Event.{Event};
 ghost use Rattle.hr_event.specs.declared.task.TaskSpec.{TaskSpec};
 ghost use Rattle.hr_event.specs.declared.told.Told.{Told};
+ghost use Rattle.hr_print.specs.Text.{HasText};
 ghost use Rattle.hr_board.specs.Over.{IsOver};
 ghost use Rattle.hr_board.specs.Plain.{IsLawful, new_board};
 ghost use Rattle.hr_line.specs.Run.{IsOpening};
@@ -36,6 +37,7 @@ use hr_queue::{
     a_queue_agrees_with_its_board, a_turn_taken_back_is_out_no_more, done_jobs_were_over,
     gains_add_up, what_calls_gain,
 };
+use hr_session::steps_come_to_an_end;
 use hr_store::{
     a_taken_hook_is_put, hooks_reach_one_row, is_among_says_contains, row_ends_its_job,
     sweep_drops_rows_that_are_over,
@@ -257,4 +259,12 @@ pub fn what_can_be_copied_arrives()
     done_when_finished();
     each_end_has_one_hook();
     revisions_have_sources();
+}
+
+/// A law: each answer to an event has a text.
+pub fn answers_have_texts()
+    ensures { (s t : CoreState) (event : Event) (answers : List Told)
+        → Does s event answers t → AllByRecursion HasText answers }
+{
+    steps_come_to_an_end();
 }
