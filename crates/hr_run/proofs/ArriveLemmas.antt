@@ -428,9 +428,9 @@ module _ (opened : List State) (specs : List TaskSpec) (each : AllByRecursion (L
     | inr short ↦ inr short
     | inl first ↦ elim (all_or_one made (suc before) (λ place spec is.
         subst Came (let e : before + suc place + 1 ≡ suc before + place + 1 = omega arith in e) (has (suc place) spec is))) [
-      | inr short ↦ inr short
-      | inl rest ↦ inl (by first rest)
-    ]
+          | inr short ↦ inr short
+          | inl rest ↦ inl (by first rest)
+        ]
   ]
     where
       by : word_at t.board (place_of (before + 0 + 1) 0) ≡ 6 → All made (suc before) → All (x ∷ made) before

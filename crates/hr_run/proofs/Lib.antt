@@ -19,3 +19,4 @@ mod SourceLemmas
 mod CopiedLemmas
 mod ArriveLemmas
 mod TextLemmas
+mod CallLemmas

@@ -1,7 +1,7 @@
 use Rattle.hr_run.specs.Arrives.{LanesHaveSource}
 use Rattle.hr_run.specs.State.{opening}
 use Rattle.hr_run.proofs.SourceLemmas.{count_through, planned_through, sources_in}
-use Rattle.hr_run.proofs.laws.revisions_have_sources.Goals as goal
+use Rattle.hr_run.proofs.arrival.revisions_have_sources.Goals as goal
 
 pub returns-clause-count : goal.returns-clause-count
 returns-clause-count c lanes others plan jobs events said t runs = count_through (opening lanes others plan jobs) t events said runs

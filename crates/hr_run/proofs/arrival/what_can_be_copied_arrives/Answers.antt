@@ -9,7 +9,7 @@ use Rattle.hr_run.specs.State.{opening}
 use Rattle.hr_run.proofs.ArriveLemmas.{arrived, opens_finished, opens_well, through_ended, through_parts}
 use Rattle.hr_run.proofs.ListLemmas.{all_at}
 use Rattle.hr_run.proofs.PromiseLemmas.{opening_at}
-use Rattle.hr_run.proofs.laws.what_can_be_copied_arrives.Goals as goal
+use Rattle.hr_run.proofs.arrival.what_can_be_copied_arrives.Goals as goal
 
 pub returns : goal.returns
 returns c lanes others plan jobs events said t new tries sound can asks runs =
