@@ -17,6 +17,9 @@ mod MoveLemmas
 mod ReadyLemmas
 mod SourceLemmas
 mod CopiedLemmas
+mod WellLemmas
+mod EndedLemmas
+mod SuccessLemmas
 mod ArriveLemmas
 mod TextLemmas
 mod CallLemmas

@@ -19,8 +19,9 @@ pub record CanRun (lanes : List State) (spec : TaskSpec) : Type 0 where
   pub source : IsSome (link_at lane.sources spec.src)
   pub dest : IsSome (link_at lane.dests spec.dst)
 
--- what the calls of the core ask at every moment: what holds then, a lane, which has the connections
--- of each task that is planned and of each that was made, and no more jobs than the store may make
+-- what the calls of the core ask at every moment: what holds then, a lane, which has the
+-- connections of each task that is planned and of each that was made, and no more jobs than the
+-- store may make
 pub record IsReady (s : CoreState) : Type 0 where
   pub holds : Holds s
   pub some_lane : 1 ≤ length s.lanes

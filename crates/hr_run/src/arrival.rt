@@ -36,8 +36,8 @@ pub fn revisions_have_sources()
         → HaveSources lane now }
 {}
 
-/// A law: where each execution that is kept succeeded, the task of each row was copied: a revision of
-/// its job put each tag, or found it to name the manifest already, or another one that is kept.
+/// A law: where each execution that is kept succeeded, the task of each row was copied: a revision
+/// of its job put each tag, or found it to name the manifest already, or another one that is kept.
 pub fn what_succeeded_was_copied()
     ensures { (s : CoreState) (job : ℕ) (row : RowState) → Holds s → ExecsSucceed s
         → row_of_job job s.store.kept ≡ Some row → IsTaskCopied s job row.spec }
@@ -45,10 +45,10 @@ pub fn what_succeeded_was_copied()
     each_end_has_one_hook();
 }
 
-/// What can be copied arrives: where all that is planned can be copied, as the lanes were opened, no
-/// job is stopped, and a finish comes behind each trigger, each execution that is kept succeeded, or
-/// a revision ended by want of memory. Whatever else is asked between them: jobs may be taken, left
-/// half done and given back, hooks delivered or forged, and rows swept.
+/// What can be copied arrives: where all that is planned can be copied, as the lanes were opened,
+/// no job is stopped, and a finish comes behind each trigger, each execution that is kept succeeded,
+/// or a revision ended by want of memory. Whatever else is asked between them: jobs may be taken,
+/// left half done and given back, hooks delivered or forged, and rows swept.
 pub fn what_can_be_copied_arrives()
     ensures { (lanes : List State) (others : List Link) (plan : Option (List TaskSpec))
         (jobs : ℕ) (events : List Event) (said : List Told) (t : CoreState)

@@ -6,7 +6,9 @@ use Rattle.hr_session.specs.Lane.{IsLaneSound}
 use Rattle.hr_run.specs.Arrives.{LanesCanCopy}
 use Rattle.hr_run.specs.Claims.{LanesHold}
 use Rattle.hr_run.specs.State.{opening}
-use Rattle.hr_run.proofs.ArriveLemmas.{arrived, opens_finished, opens_well, through_ended, through_parts}
+use Rattle.hr_run.proofs.ArriveLemmas.{arrived}
+use Rattle.hr_run.proofs.EndedLemmas.{opens_finished, through_ended, through_parts}
+use Rattle.hr_run.proofs.WellLemmas.{opens_well}
 use Rattle.hr_run.proofs.ListLemmas.{all_at}
 use Rattle.hr_run.proofs.PromiseLemmas.{opening_at}
 use Rattle.hr_run.proofs.arrival.what_can_be_copied_arrives.Goals as goal
