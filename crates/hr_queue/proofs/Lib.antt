@@ -3,4 +3,5 @@ mod ByJobLemmas
 mod DelayedLemmas
 mod GainsLemmas
 mod ListLemmas
+mod SettlingLemmas
 mod WholeLemmas

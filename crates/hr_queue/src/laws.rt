@@ -11,8 +11,9 @@ ghost use Rattle.hr_queue.specs.declared.answer.Settled.{Settled};
 ghost use Rattle.hr_queue.specs.declared.answer.Taken.{Taken};
 ghost use Rattle.hr_queue.specs.declared.answer.Taken.TheVariants as taken;
 ghost use Rattle.hr_queue.specs.Adding.{Adds, IsFit};
+ghost use Rattle.hr_queue.specs.ByJob.{without_job};
 ghost use Rattle.hr_queue.specs.Gains.{Agrees, Gains, IsDone, times_listed};
-ghost use Rattle.hr_queue.specs.Settling.{Settles};
+ghost use Rattle.hr_queue.specs.Settling.{Settles, SettlesHeld};
 ghost use Rattle.hr_queue.specs.Taking.{Takes};
 ghost use Rattle.hr_queue.specs.View.{View, AreDistinct, empty_queue};
 ghost use Rattle.hr_queue.specs.Whole.{IsWhole};
@@ -38,6 +39,13 @@ pub fn what_calls_gain()
         → AllByRecursion (IsFit b.jobs) jobs → Adds q b jobs r c → Gains q b jobs r c }
     ensures settle { (now : ℕ) (q r : View) (b c : board.View) (turn : Turn) (answer : Settled)
         → IsWhole q → Settles now q b turn answer r c → Gains q b [] r c }
+{}
+
+/// A law: a turn that was out and is given back is out no more, and every other one that is out
+/// stays.
+pub fn a_turn_taken_back_is_out_no_more()
+    ensures { (now : ℕ) (q r : View) (b c : board.View) (turn : Turn) (answer : Settled)
+        → SettlesHeld now q b turn answer r c → r.out ≡ without_job q.out turn.job.0 }
 {}
 
 /// A law: no call adds nothing, and what two calls in turn add adds up.

@@ -10,6 +10,7 @@ use Rattle.hr_base.specs.Status.{word_of}
 use Rattle.hr_base.specs.declared.status.Hook.{Hook}
 use Rattle.hr_base.specs.declared.status.Mark.{Mark}
 use Rattle.hr_event.specs.declared.task.TaskSpec.{TaskSpec}
+use Rattle.hr_event.specs.declared.task.Turn.{Turn}
 use Rattle.hr_event.specs.declared.view.Received.{Received}
 use Rattle.hr_event.specs.declared.view.Received.TheVariants as received
 use Rattle.hr_board.specs.Plain.{IsLawful, Plain, view_of}
@@ -25,13 +26,13 @@ use Rattle.hr_store.specs.Laws.{TakenIsPut, hooks_of_job}
 use Rattle.hr_store.specs.Receiving.{FindsWord, ReceivesHook, TakesHook, was_made}
 use Rattle.hr_store.specs.Row.{RowState, is_among, with_hook}
 use Rattle.hr_store.specs.Store.{StoreState, execs_hearing, row_hearing, row_of_job}
-use Rattle.hr_run.specs.Holds.{CoveredBy, HasAttempts, Holds, IsCovered, IsEmitted, IsReceived, IsServing}
+use Rattle.hr_run.specs.Holds.{CoveredBy, HasAttempts, Holds, HoldsOut, IsCovered, IsEmitted, IsReceived, IsServing}
 use Rattle.hr_run.specs.Part.{Acts, Makes, Marks, Part, Parts, Passes, Receives, Stops, Turns, Works, stop_hook}
 use Rattle.hr_run.specs.Part.Part.{makes, passes, receives, stops, turns, works}
 use Rattle.hr_run.specs.Part.Parts.{next, none}
 use Rattle.hr_run.specs.State.{CoreState, hook_at, hook_place, queued_from, spec_of, status_word, was_delivered}
 use Rattle.hr_run.specs.Weight.{final_weight, lane_weight, stop_weight}
-use Rattle.hr_run.proofs.LaneLemmas.{LaneLaws, noted_on, quiet_acts, still_acts, stopping_acts, worked_so}
+use Rattle.hr_run.proofs.LaneLemmas.{LaneLaws, held_so, noted_on, quiet_acts, still_acts, stopping_acts, worked_so}
 use Rattle.hr_run.proofs.ListLemmas.{all_append, all_at, all_set, all_then, sum_set}
 use Rattle.hr_run.proofs.MarkLemmas.{covered_still, covers_itself, covers_later, covers_mark, emitted_more, emitted_still, few_each, hook_all, hook_more, last_noted, mark_covers, marked, noted_more, spec_more, spec_within, sum_finals, task_more}
 use Rattle.hr_run.proofs.RowLemmas.{hearing_row, heard_row, hears, new_row, new_spec, queued_more, row_heard, row_pushed}
@@ -106,6 +107,7 @@ module _ (laws : OtherLaws) (s t : CoreState) (o : Holds s) where
         planned = o.planned;
         rows = o.rows;
         lanes = lanes_still s t o kept;
+        held = h.held o.held;
         shares = o.shares;
         finals = λ f. ap (sum_by f) same ∙ o.finals f;
         emitted = emitted_all s t o kept;
@@ -138,6 +140,7 @@ module _ (laws : OtherLaws) (s t : CoreState) (o : Holds s) where
         planned = o.planned;
         rows = o.rows;
         lanes = lanes_still s t o acts.kept;
+        held = o.held;
         shares = λ g. let a = more g in let b = more (stop_weight g) in let c = o.shares g in omega (arith, a, b, c);
         finals = λ f.
             let a = more (final_weight f) in
@@ -166,6 +169,7 @@ module _ (laws : OtherLaws) (s t : CoreState) (o : Holds s) where
         planned = o.planned;
         rows = λ job row e. o.rows job row (h.rows job row e);
         lanes = lanes_still s t o kept;
+        held = o.held;
         shares = o.shares;
         finals = λ f. let b = sum_finals s.board t.board [] h.acts.finals f in let c = o.finals f in omega (arith, b, c);
         emitted = emitted_all s t o kept;
@@ -177,9 +181,10 @@ module _ (laws : OtherLaws) (s t : CoreState) (o : Holds s) where
   pub keeps_works : LaneLaws → Works s t → Holds t
   keeps_works lane_laws h =
       let was = all_at (IsServing s.made (view_of s.board)) s.lanes h.at h.lane o.lanes h.calls.there in
-      let w = worked_so lane_laws s.made s.board t.board h.lane h.worked h.calls.more h.lawful was h.calls.gave h.does in
+      let w = worked_so lane_laws s.made s.board t.board h.lane h.worked h.calls.more h.lawful was h.calls.gave s.turns.out h.does in
       let kept = w.acts.kept in
       let L : List State → Type 0 = λ ls. AllByRecursion (IsServing s.made (view_of t.board)) ls in
+      let H : List State → Type 0 = λ ls. AllByRecursion (HoldsOut s.turns.out) ls in
       let E : List Hook → Type 0 = λ hs. AllByRecursion (IsEmitted s.made t.board.past.notes) hs in
       let R : List Hook → ℕ → Type 0 = λ hs k. IsReceived hs s.store k in
       let more : (g : Hook → ℕ) → sum_by g t.hooks ≡ sum_by g s.hooks + sum_by g h.calls.more =
@@ -196,6 +201,9 @@ module _ (laws : OtherLaws) (s t : CoreState) (o : Holds s) where
         rows = o.rows;
         lanes = subst L (sym h.calls.lanes)
             (all_set (IsServing s.made (view_of t.board)) s.lanes h.at h.worked (lanes_still s t o kept) w.serving);
+        held = subst H (sym h.calls.lanes) (all_set (HoldsOut s.turns.out) s.lanes h.at h.worked o.held
+            (held_so s.made s.turns.out h.lane h.worked (view_of s.board) (view_of t.board) h.does
+            (all_at (HoldsOut s.turns.out) s.lanes h.at h.lane o.held h.calls.there)));
         shares = λ g.
             let a = more g in
             let b = more (stop_weight g) in
@@ -276,6 +284,7 @@ module _ (laws : OtherLaws) (s t : CoreState) (o : Holds s) where
           ]);
           lanes = subst M (sym h.made) (all_then (IsServing s.made (view_of s.board)) (IsServing (s.made ++ h.specs) (view_of t.board))
               (serving_more s.made h.specs s.board t.board kept) s.lanes o.lanes);
+          held = subst (λ (ts : List Turn). AllByRecursion (HoldsOut ts) s.lanes) (sym h.out) o.held;
           shares = o.shares;
           finals = λ f. ap (sum_by f) same ∙ o.finals f;
           emitted = subst E (sym h.made) (all_then (IsEmitted s.made s.board.past.notes) (IsEmitted (s.made ++ h.specs) t.board.past.notes)
@@ -446,6 +455,7 @@ keeps_receives laws s t o r =
       planned = o.planned;
       rows = h.rows;
       lanes = lanes_still s t o kept;
+      held = o.held;
       shares = o.shares;
       finals = λ f. let b = sum_finals s.board t.board [] h.acts.finals f in let c = o.finals f in omega (arith, b, c);
       emitted = emitted_all s t o kept;

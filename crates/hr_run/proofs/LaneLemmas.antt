@@ -13,24 +13,26 @@ use Rattle.hr_base.specs.declared.status.Status.{Status}
 use Rattle.hr_base.specs.declared.status.Status.TheVariants.{Running}
 use Rattle.hr_event.specs.declared.cause.Cause.{Cause}
 use Rattle.hr_event.specs.declared.task.TaskSpec.{TaskSpec}
+use Rattle.hr_event.specs.declared.task.Turn.{Turn}
 use Rattle.hr_board.specs.Plain.{IsLawful, Plain, view_of}
 use Rattle.hr_board.specs.View.{Keeps, Noted, Notes, Place, View, Word, moving, noting, place_of}
-use Rattle.hr_line.specs.Admission.{Admits, Begins}
+use Rattle.hr_line.specs.Admission.{Admits, Begins, held_first}
 use Rattle.hr_line.specs.Finals.{EndsHold}
 use Rattle.hr_line.specs.Hooks.{HooksTell}
 use Rattle.hr_line.specs.Orderly.{IsHeldAs, IsNew, IsOrderly, admitted_at}
 use Rattle.hr_line.specs.Run.{OthersStay}
-use Rattle.hr_line.specs.State.{State, held_at}
-use Rattle.hr_line.specs.Step.{ComesToEnd, Ends, Step, end_status, hook_of}
+use Rattle.hr_line.specs.State.{HeldAfter, State, held_at}
+use Rattle.hr_line.specs.Step.{ComesToEnd, Ends, Step, end_status, goes_on, hook_of}
 use Rattle.hr_line.specs.declared.answer.Admit.{Admit}
 use Rattle.hr_line.specs.declared.answer.Admit.TheVariants as admit
 use Rattle.hr_line.specs.declared.answer.Stepped.{Stepped}
 use Rattle.hr_line.specs.declared.answer.Stepped.TheVariants as stepped
 use Rattle.hr_line.specs.declared.held.Admitted.{Admitted}
 use Rattle.hr_line.specs.declared.held.Held.{Held}
+use Rattle.hr_line.specs.declared.held.Work.{Work}
 use Rattle.hr_lane.specs.Admission.{AdmitsWord, AreNoted, waiting}
 use Rattle.hr_lane.specs.Word.{LooksAndCloses, OfWord, Steps}
-use Rattle.hr_run.specs.Holds.{IsEmitted, IsRevision, IsServing, IsTask}
+use Rattle.hr_run.specs.Holds.{HoldsOut, IsTurnOut, IsEmitted, IsRevision, IsServing, IsTask}
 use Rattle.hr_run.specs.Part.{Acts, LaneDoes}
 use Rattle.hr_run.specs.Part.LaneDoes.{admits, steps}
 use Rattle.hr_run.specs.State.{status_word}
@@ -123,7 +125,7 @@ module _ (b c : Plain) (lawful : IsLawful c.words c.past) where
 pub noted_on : (all : List Admitted) (v w : View) → Keeps v w → AreNoted all v → AreNoted all w
 noted_on all v w kept noted job rev there = noted_more v w kept (place_of job rev) (word_of (At Running)) (noted job rev there)
 
-both_true : (b c : Bool) → (b && c) ≡ true → (b ≡ true) × (c ≡ true)
+pub both_true : (b c : Bool) → (b && c) ≡ true → (b ≡ true) × (c ≡ true)
 both_true true true is = (refl, refl)
 both_true true false is = cc
 both_true false c is = cc
@@ -149,7 +151,7 @@ admitted_in : (P : Admitted → Type 0) (x a : Admitted) (rest : Option Admitted
 admitted_in P x a rest true first later e = let same : x ≡ a = cc in subst P same first
 admitted_in P x a rest false first later e = later e
 
-admitted_has : (P : Admitted → Type 0) (all : List Admitted) (job rev : ℕ) (a : Admitted) → AllByRecursion P all
+pub admitted_has : (P : Admitted → Type 0) (all : List Admitted) (job rev : ℕ) (a : Admitted) → AllByRecursion P all
     → admitted_at all job rev ≡ Some a → P a
 admitted_has P [] job rev a each is = absurd (cc)
 admitted_has P (x ∷ all) job rev a each is =
@@ -166,10 +168,10 @@ pub record Worked (made : List TaskSpec) (b c : Plain) (worked : State) (more : 
   pub serving : IsServing made (view_of c) worked
 
 -- no hook was given
-none_given : (lane worked : State) (more : List Hook) → worked.hooks ≡ lane.hooks → worked.hooks ≡ more ++ lane.hooks → more ≡ []
+pub none_given : (lane worked : State) (more : List Hook) → worked.hooks ≡ lane.hooks → worked.hooks ≡ more ++ lane.hooks → more ≡ []
 none_given lane worked more same gave = append_cancel_right more [] lane.hooks (sym gave ∙ same)
 
-one_given : (lane worked : State) (hook : Hook) (more : List Hook) → worked.hooks ≡ hook ∷ lane.hooks
+pub one_given : (lane worked : State) (hook : Hook) (more : List Hook) → worked.hooks ≡ hook ∷ lane.hooks
     → worked.hooks ≡ more ++ lane.hooks → more ≡ hook ∷ []
 one_given lane worked hook more is gave = append_cancel_right more (hook ∷ []) lane.hooks (sym gave ∙ is)
 
@@ -327,6 +329,50 @@ module _ (laws : LaneLaws) (made : List TaskSpec) (b c : Plain) (lane worked : S
       (serving_step job (stepped.Lost mark) acts.kept (inr does.0))
   stepped_so job (stepped.Ended status) does = ended_as job status does.0 does.1
 
-  pub worked_so : LaneDoes made lane worked (view_of b) (view_of c) → Worked made b c worked more
-  worked_so (admits a came task does) = admitted a came task does
-  worked_so (steps job came does) = stepped_so job came does
+  pub worked_so : (out : List Turn) → LaneDoes made out lane worked (view_of b) (view_of c) → Worked made b c worked more
+  worked_so out (admits a came task is_out does) = admitted a came task does
+  worked_so out (steps job came does) = stepped_so job came does
+
+-- ---- what a lane holds is out
+
+held_if : (out : List Turn) (job other : ℕ) (now before : Option Held) (b : Bool) → (b ≡ true → other ≡ job)
+    → IfSome now (λ h. IsTurnOut out job h.by.rev) → IfSome before (λ h. IsTurnOut out other h.by.rev)
+    → IfSome (if b then now else before) (λ h. IsTurnOut out other h.by.rev)
+held_if out job other now before true same is was =
+    subst (λ (j : ℕ). IfSome now (λ h. IsTurnOut out j h.by.rev)) (sym (same refl)) is
+held_if out job other now before false same is was = was
+
+held_after : (out : List Turn) (lane worked : State) (job : ℕ) (now : Option Held) → HeldAfter job now lane.held worked.held
+    → IfSome now (λ h. IsTurnOut out job h.by.rev) → HoldsOut out lane → HoldsOut out worked
+held_after out lane worked job now changes is were other =
+    subst (λ (o : Option Held). IfSome o (λ h. IsTurnOut out other h.by.rev)) (sym (changes other))
+    (held_if out job other now (held_at lane.held other) (nat_eq other job) (λ e. eqb-true other job e) is (were other))
+
+goes_by : (h : Held) (work : Option Work) → (goes_on h work).by ≡ h.by
+goes_by h None = refl
+goes_by h (Some w) = refl
+
+step_out : (out : List Turn) (lane worked : State) (job : JobNo) (v w : View) (came : Stepped) → Steps lane worked job v w came
+    → HoldsOut out lane → HoldsOut out worked
+step_out out lane worked job v w stepped.NotHere does were = subst (λ (x : State). HoldsOut out x) (sym does.0.1) were
+step_out out lane worked job v w stepped.Did does were =
+    let g = does.0 in
+    let was : IsTurnOut out job.0 (g.held).by.rev =
+    subst (λ (o : Option Held). IfSome o (λ h. IsTurnOut out job.0 h.by.rev)) g.here (were job.0) in
+    let now = subst (λ (a : Admitted). IsTurnOut out job.0 a.rev) (sym (goes_by g.held g.work)) was in
+    held_after out lane worked job.0 (Some (goes_on g.held g.work)) g.now now were
+step_out out lane worked job v w (stepped.Lost mark) (inl does) were = held_after out lane worked job.0 None does.0.gone tt were
+step_out out lane worked job v w (stepped.Lost mark) (inr does) were = held_after out lane worked job.0 None does.0.gone tt were
+step_out out lane worked job v w (stepped.Ended status) does were = held_after out lane worked job.0 None does.0.gone tt were
+
+admit_out : (out : List Turn) (lane worked : State) (a : Admitted) (v w : View) (came : Admit) → IsTurnOut out a.job.0 a.rev
+    → AdmitsWord lane worked a v w came → HoldsOut out lane → HoldsOut out worked
+admit_out out lane worked a v w admit.Began is_out does were =
+    held_after out lane worked a.job.0 (Some (held_first a)) does.0.held is_out were
+admit_out out lane worked a v w (admit.Lost mark) is_out does were = subst (λ (x : State). HoldsOut out x) (sym does.0) were
+admit_out out lane worked a v w admit.Memory is_out does were = subst (λ (x : State). HoldsOut out x) (sym does.0) were
+
+pub held_so : (made : List TaskSpec) (out : List Turn) (lane worked : State) (v w : View) → LaneDoes made out lane worked v w
+    → HoldsOut out lane → HoldsOut out worked
+held_so made out lane worked v w (admits a came task is_out does) were = admit_out out lane worked a v w came is_out does were
+held_so made out lane worked v w (steps job came does) were = step_out out lane worked job v w came does were

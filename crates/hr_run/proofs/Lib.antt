@@ -13,3 +13,13 @@ mod FinishLemmas
 mod PromiseLemmas
 mod TellLemmas
 mod AnswerLemmas
+mod MoveLemmas
+mod ReadyLemmas
+mod SourceLemmas
+mod CopiedLemmas
+mod WellLemmas
+mod EndedLemmas
+mod SuccessLemmas
+mod ArriveLemmas
+mod TextLemmas
+mod CallLemmas

@@ -1,9 +1,9 @@
 -- Lemmas over lists alone.
-use Rattle.std.proofs.Common.{◌≡◌, ◌⊎◌, inl, inr, refl, ap, subst, zero, suc, ℕ, ◌+◌, ◌<◌, ◌≤◌, List, [], ◌∷◌, ◌++◌, length, get_or, set, slice_get, arith}
+use Rattle.std.proofs.Common.{◌≡◌, ◌∙◌, sym, ◌⊎◌, inl, inr, refl, ap, subst, zero, suc, ℕ, ◌+◌, ◌<◌, ◌≤◌, List, [], ◌∷◌, ◌++◌, length, get_or, set, slice_get, arith}
 use Rattle.std.proofs.lemmas.Bool.{cases_lt}
 use Rattle.std.proofs.lemmas.List.Sums.{get_or-le-sum_by, sum_by-cons, sum_by-set}
 use Rattle.std.specs.Prelude.{Some}
-use Rattle.std.specs.List.{AllByRecursion, Contains, sum_by}
+use Rattle.std.specs.List.{AllByRecursion, Contains, insert, remove, sum_by}
 
 -- ---- each of a list
 
@@ -76,6 +76,39 @@ there_cases x y xs (suc k, l, e) = inr (k, omega (arith, l), e)
 
 pub there_at : {X : Type 0} (xs : List X) (i : ℕ) (x : X) → slice_get xs i ≡ Some x → Contains xs x
 there_at xs i x e = (i, get_within xs i x e, get_is xs i x e)
+
+-- ---- an item more, or one less
+
+pub inserted_there : {X : Type 0} (xs : List X) (i : ℕ) (x : X) → Contains (insert xs i x) x
+inserted_there [] zero x = there_first x []
+inserted_there [] (suc i) x = there_first x []
+inserted_there (y ∷ ys) zero x = there_first x (y ∷ ys)
+inserted_there (y ∷ ys) (suc i) x = there_later y x (insert ys i x) (inserted_there ys i x)
+
+pub inserted_keeps : {X : Type 0} (xs : List X) (i : ℕ) (x y : X) → Contains xs y → Contains (insert xs i x) y
+inserted_keeps [] i x y c = absurd (omega (arith, c.1))
+inserted_keeps (z ∷ zs) zero x y c = there_later x y (z ∷ zs) c
+inserted_keeps (z ∷ zs) (suc i) x y c = elim (there_cases z y zs c) [
+  | inl same ↦ subst (λ w. Contains (z ∷ insert zs i x) w) same (there_first z (insert zs i x))
+  | inr later ↦ there_later z y (insert zs i x) (inserted_keeps zs i x y later)
+]
+
+pub removed_keeps : {X : Type 0} (xs : List X) (i : ℕ) (x y : X) → slice_get xs i ≡ Some x → Contains xs y → (x ≡ y → ⊥)
+    → Contains (remove xs i) y
+removed_keeps [] i x y e c other = absurd (omega (arith, c.1))
+removed_keeps (z ∷ zs) zero x y e c other = elim (there_cases z y zs c) [
+  | inl same ↦ absurd (other (let first : z ≡ x = cc in sym first ∙ same))
+  | inr later ↦ later
+]
+removed_keeps (z ∷ zs) (suc i) x y e c other = elim (there_cases z y zs c) [
+  | inl same ↦ subst (λ w. Contains (z ∷ remove zs i) w) same (there_first z (remove zs i))
+  | inr later ↦ there_later z y (remove zs i) (removed_keeps zs i x y e later other)
+]
+
+pub all_both : {X : Type 0} (P Q R : X → Type 0) → ((x : X) → P x → Q x → R x) → (xs : List X) → AllByRecursion P xs
+    → AllByRecursion Q xs → AllByRecursion R xs
+all_both P Q R h [] a b = tt
+all_both P Q R h (x ∷ xs) a b = (h x a.0 b.0, all_both P Q R h xs a.1 b.1)
 
 -- ---- sums
 

@@ -12,12 +12,13 @@ use Rattle.hr_line.specs.Finals.{EndsHold}
 use Rattle.hr_line.specs.Hooks.{HooksTell}
 use Rattle.hr_line.specs.Orderly.{IsOrderly}
 use Rattle.hr_line.specs.Run.{IsOpening}
-use Rattle.hr_line.specs.State.{Link, State}
+use Rattle.hr_line.specs.State.{Link, State, held_at}
+use Rattle.hr_line.specs.declared.held.Held.{Held}
 use Rattle.hr_line.specs.declared.held.Admitted.{Admitted}
 use Rattle.hr_lane.specs.Admission.{AreNoted}
 use Rattle.hr_queue.specs.Gains.{Agrees}
 use Rattle.hr_queue.specs.View.{empty_queue}
-use Rattle.hr_run.specs.Holds.{HasAttempts, Holds, IsServing, IsTask}
+use Rattle.hr_run.specs.Holds.{HasAttempts, Holds, HoldsOut, IsTurnOut, IsServing, IsTask}
 use Rattle.hr_run.specs.State.{opening, was_delivered}
 use Rattle.hr_run.specs.Weight.{lane_weight}
 use Rattle.hr_run.proofs.ListLemmas.{all_then}
@@ -32,6 +33,9 @@ no_hooks g (l ∷ ls) a =
 
 none_admitted : (v : board.View) → AreNoted [] v
 none_admitted v job rev there = cc
+
+none_held : (s : State) → IsOpening s → HoldsOut [] s
+none_held s o = subst (λ (hs : List Held). (job : ℕ) → IfSome (held_at hs job) (λ h. IsTurnOut [] job h.by.rev)) (sym o.held) (λ job. tt)
 
 module _ (orderly : (s : State) → IsOpening s → IsOrderly s) (ends : (s : State) → IsOpening s → EndsHold s)
     (hooks : (s : State) → IsOpening s → HooksTell s)
@@ -64,6 +68,7 @@ module _ (orderly : (s : State) → IsOpening s → IsOrderly s) (ends : (s : St
     planned = planned;
     rows = λ job row e. absurd (cc);
     lanes = all_then IsOpening (IsServing [] (view_of (new_board jobs))) (serves [] (view_of (new_board jobs))) lanes a;
+    held = all_then IsOpening (HoldsOut []) none_held lanes a;
     shares = λ g. (let n = no_hooks g lanes a in omega (arith, n));
     finals = λ f. refl;
     emitted = tt;

@@ -51,8 +51,8 @@ admit_runs s t a v w (admit.Lost mark) sound does = lane_still s t does.0
 admit_runs s t a v w admit.Memory sound does = lane_still s t does.0
 
 does_run : StepsAreSteps → (s t : CoreState) (lane worked : State) → IsLaneSound lane
-    → LaneDoes s.made lane worked (view_of s.board) (view_of t.board) → LaneRuns lane worked
-does_run are_steps s t lane worked sound (admits a came task does) =
+    → LaneDoes s.made s.turns.out lane worked (view_of s.board) (view_of t.board) → LaneRuns lane worked
+does_run are_steps s t lane worked sound (admits a came task is_out does) =
     admit_runs lane worked a (view_of s.board) (view_of t.board) came sound does
 does_run are_steps s t lane worked sound (steps job came does) = record {
   calls = Call.step job came ∷ [];

@@ -1,9 +1,9 @@
 -- What each event does is made of parts.
-use Rattle.std.proofs.Common.{◌≡◌, inl, inr, refl, sym, ap, subst, ◌∙◌, zero, suc, ℕ, ◌+◌, ◌≤◌, Bool, true, List, [], ◌∷◌, ◌++◌, length, arith}
+use Rattle.std.proofs.Common.{◌≡◌, inl, inr, refl, sym, ap, subst, ◌∙◌, zero, suc, ℕ, ◌+◌, ◌≤◌, Bool, true, List, [], ◌∷◌, ◌++◌, length, slice_get, arith}
 use Rattle.std.proofs.lemmas.Bool.Decides.{nat_tests}
 use Rattle.std.proofs.lemmas.List.{append-nil}
 use Rattle.std.specs.Prelude.{Option, Some, None, IfSome, nat_le, nat_lt, ◌&&◌}
-use Rattle.std.specs.List.{AllByRecursion, Contains, insert}
+use Rattle.std.specs.List.{AllByRecursion, Contains, insert, remove}
 use Rattle.hr_base.specs.declared.number.JobNo.{JobNo}
 use Rattle.hr_base.specs.declared.number.PolicyNo.{PolicyNo}
 use Rattle.hr_base.specs.declared.status.Hook.{Hook}
@@ -18,9 +18,11 @@ use Rattle.hr_board.specs.Plain.{Plain, view_of}
 use Rattle.hr_board.specs.View as board
 use Rattle.hr_board.specs.View.{place_of}
 use Rattle.hr_queue.specs.Adding.{Adds, IsFit}
-use Rattle.hr_queue.specs.ByJob.{rank, with_turn}
+use Rattle.hr_queue.specs.ByJob.{rank, with_turn, without_job}
+use Rattle.hr_line.specs.State.{State, held_at}
+use Rattle.hr_line.specs.declared.held.Held.{Held}
 use Rattle.hr_queue.specs.Gains.{Gains}
-use Rattle.hr_queue.specs.Settling.{Settles}
+use Rattle.hr_queue.specs.Settling.{Settles, SettlesHeld}
 use Rattle.hr_queue.specs.Taking.{Takes}
 use Rattle.hr_queue.specs.View as queue
 use Rattle.hr_queue.specs.Whole.{IsAdded, IsTurn, IsWhole}
@@ -36,22 +38,28 @@ use Rattle.hr_store.specs.Row.{RowState}
 use Rattle.hr_store.specs.Store.{AreOrdered, FailsBare, StoreState, execs_failing, first_row, row_among, row_of_job}
 use Rattle.hr_store.specs.Sweeping.{kept_by}
 use Rattle.hr_run.specs.Does.{DeliversNumber, DoesOne}
-use Rattle.hr_run.specs.Holds.{HasAttempts, Holds, IsEmitted, IsTask}
-use Rattle.hr_run.specs.Part.{Acts, Part, Parts}
+use Rattle.hr_run.specs.Holds.{HoldsOut, IsTurnOut, HasAttempts, Holds, IsEmitted, IsTask}
+use Rattle.hr_run.specs.Part.{KeepsOut, Acts, Part, Parts}
 use Rattle.hr_run.specs.Part.LaneDoes.{admits, steps}
 use Rattle.hr_run.specs.Part.Part.{makes, passes, receives, stops, turns, works}
 use Rattle.hr_run.specs.Part.Parts.{next, none}
 use Rattle.hr_run.specs.Sound.{IsSound}
 use Rattle.hr_run.specs.State.{CoreState, queued_from}
 use Rattle.hr_run.specs.Triggering.{Creates, FailsToPlan, Reserves, Triggers}
-use Rattle.hr_run.specs.Turning.{GoesOut, SettlesOut, StepsJob, TakesTurn}
+use Rattle.hr_run.specs.Turning.{NoneHolds, GoesOut, SettlesOut, StepsJob, TakesTurn}
 use Rattle.hr_run.specs.Stopping.{FindsFinal, LooksAt, StopsJob}
 use Rattle.hr_run.specs.Delivering.{Delivers, Forges, Sweeps}
 use Rattle.hr_run.specs.Triggering.Triggers.{creates, fails, is_full, no_policy}
 use Rattle.hr_run.proofs.DoneLemmas.{queued_made, made_spec}
 use Rattle.hr_run.proofs.KeepsLemmas.{OtherLaws, keeps_parts}
 use Rattle.hr_run.proofs.LaneLemmas.{LaneLaws, quiet_acts, still_acts}
+use Rattle.hr_run.proofs.ListLemmas.{all_both, all_then, inserted_keeps, inserted_there, removed_keeps}
 use Rattle.hr_run.proofs.MarkLemmas.{hook_all}
+
+-- a turn that is given back goes, and no other
+abbrev pub OneGoes : Type 0
+OneGoes = (now : ℕ) (q r : queue.View) (b c : board.View) (turn : Turn) (came : Settled) → SettlesHeld now q b turn came r c
+    → r.out ≡ without_job q.out turn.job.0
 
 -- the laws of the queue and of the store that are used
 pub record CallLaws : Type 0 where
@@ -61,6 +69,7 @@ pub record CallLaws : Type 0 where
   pub settle : (now : ℕ) (q r : queue.View) (b c : board.View) (turn : Turn) (answer : Settled) → IsWhole q
       → Settles now q b turn answer r c → Gains q b [] r c
   pub none : (q : queue.View) (b : board.View) → Gains q b [] q b
+  pub goes : OneGoes
   pub sweeps : (keep job : ℕ) (execs : List ExecState) → AreOrdered 0 0 execs → AllByRecursion FailsBare execs → RowStays keep job execs
 
 -- ---- parts one after the other
@@ -104,13 +113,14 @@ store_only s t sound jobs limit rows after =
 
 -- the queue changes, and the board stays
 queue_only : (s t : CoreState) → IsSound t → Gains s.turns (view_of s.board) [] t.turns (view_of s.board)
-    → t ≡ record s { turns = t.turns } → Part s t
-queue_only s t sound gains after =
+    → KeepsOut s.lanes s.turns.out t.turns.out → t ≡ record s { turns = t.turns } → Part s t
+queue_only s t sound gains held after =
     let b : t.board ≡ s.board = ap (λ (x : CoreState). x.board) after in
     turns (record {
       lawful = sound.lawful;
       whole = sound.whole;
       gains = subst (λ (y : Plain). Gains s.turns (view_of s.board) [] t.turns (view_of y)) (sym b) gains;
+      held = held;
       after = after ∙ ap (λ (y : Plain). record s { board = y; turns = t.turns }) (sym b);
     })
 
@@ -125,6 +135,62 @@ all_inserted P (y ∷ ys) (suc i) x a = all_inserted P ys i x a.1
 taken_out : (now : ℕ) (q r : queue.View) (turn : Turn) → Takes now q (taken.Turn turn) r → r.out ≡ with_turn q.out turn
 taken_out now q r turn (inl h) = ap (λ (v : queue.View). v.out) h.after
 taken_out now q r turn (inr h) = ap (λ (v : queue.View). v.out) h.after
+
+out_same : (lanes : List State) (before after : List Turn) → after ≡ before → KeepsOut lanes before after
+out_same lanes before after same are = subst (λ (ts : List Turn). AllByRecursion (HoldsOut ts) lanes) (sym same) are
+
+some_then : (o : Option Held) (P Q : Held → Type 0) → ((h : Held) → P h → Q h) → IfSome o P → IfSome o Q
+some_then None P Q f is = tt
+some_then (Some h) P Q f is = f h is
+
+turn_more : (out : List Turn) (i : ℕ) (turn : Turn) (job rev : ℕ) → IsTurnOut out job rev → IsTurnOut (insert out i turn) job rev
+turn_more out i turn job rev is =
+    record { turn = is.turn; there = inserted_keeps out i turn is.turn is.there; of_job = is.of_job; of_rev = is.of_rev }
+
+out_more : (lanes : List State) (before after : List Turn) (turn : Turn) → after ≡ with_turn before turn → KeepsOut lanes before after
+out_more lanes before after turn is are =
+    subst (λ (ts : List Turn). AllByRecursion (HoldsOut ts) lanes) (sym is)
+    (all_then (HoldsOut before) (HoldsOut (with_turn before turn)) (λ lane has job. some_then (held_at lane.held job)
+    (λ h. IsTurnOut before job h.by.rev) (λ h. IsTurnOut (with_turn before turn) job h.by.rev)
+    (λ h. turn_more before (rank turn.job.0 before) turn job h.by.rev) (has job)) lanes are)
+
+-- where no lane holds a job, its turn may go
+turn_less : (out : List Turn) (i : ℕ) (gone : Turn) (lane : State) (gone_job : ℕ) → slice_get out i ≡ Some gone → gone.job.0 ≡ gone_job
+    → HoldsOut out lane → held_at lane.held gone_job ≡ None → HoldsOut (remove out i) lane
+turn_less out i gone lane gone_job there of_job has free job = by (held_at lane.held job) refl (has job)
+  where
+    by : (o : Option Held) → held_at lane.held job ≡ o → IfSome o (λ h. IsTurnOut out job h.by.rev)
+        → IfSome o (λ h. IsTurnOut (remove out i) job h.by.rev)
+    by None e is = tt
+    by (Some h) e is = record {
+      turn = is.turn;
+      there = removed_keeps out i gone is.turn there is.there (λ same.
+          (let j : gone_job ≡ job = sym of_job ∙ ap (λ (t : Turn). t.job.0) same ∙ is.of_job in
+          let k = sym free ∙ ap (held_at lane.held) j ∙ e in cc));
+      of_job = is.of_job;
+      of_rev = is.of_rev;
+    }
+
+takes_keep : (lanes : List State) (now : ℕ) (q r : queue.View) (came : Taken) → Takes now q came r → KeepsOut lanes q.out r.out
+takes_keep lanes now q r (taken.Turn turn) h = out_more lanes q.out r.out turn (taken_out now q r turn h)
+takes_keep lanes now q r (taken.Later due) h = out_same lanes q.out r.out (ap (λ (v : queue.View). v.out) h.0)
+takes_keep lanes now q r (taken.Busy out) h = out_same lanes q.out r.out (ap (λ (v : queue.View). v.out) h.0)
+takes_keep lanes now q r taken.Idle h = out_same lanes q.out r.out (ap (λ (v : queue.View). v.out) h.0)
+
+settles_keep : OneGoes → (lanes : List State) (job : JobNo) (now : ℕ) (q r : queue.View) (b c : board.View) (turn : Turn) (came : Settled)
+    → turn.job ≡ job → NoneHolds lanes job → SettlesHeld now q b turn came r c → KeepsOut lanes q.out r.out
+settles_keep goes lanes job now q r b c turn came of_job free h are =
+    let held = h.held in
+    let job_is : held.job.0 ≡ job.0 = ap (λ (j : JobNo). j.0) (h.out.job ∙ of_job) in
+    let at = rank turn.job.0 q.out in
+    subst (λ (ts : List Turn). AllByRecursion (HoldsOut ts) lanes) (sym (goes now q r b c turn came h))
+    (all_both (HoldsOut q.out) (λ lane. held_at lane.held job.0 ≡ None) (HoldsOut (without_job q.out turn.job.0))
+    (λ lane. turn_less q.out at held lane job.0 h.out.there job_is) lanes are free)
+
+adds_out : (q : queue.View) (b : board.View) (jobs : List Queued) (r : queue.View) (c : board.View) → Adds q b jobs r c → r.out ≡ q.out
+adds_out q b _ _ _ Adds.none_yet = refl
+adds_out q b _ r c (Adds.one_more jobs job m _ d _ adds one) =
+    ap (λ (v : queue.View). v.out) one.after ∙ adds_out q b jobs m d adds
 
 -- a revision of a job whose row is kept, by a turn of the queue
 turn_task : (m : CoreState) → Holds m → (turn : Turn) (row : RowState) → IsTurn turn → IsAdded m.turns.added turn
@@ -182,10 +248,12 @@ module _ (lane_laws : LaneLaws) (laws : OtherLaws) (calls : CallLaws) where
         ended = g.ended;
         done = g.done;
         over = g.over;
-      })) h.after
+      })) (out_same s.lanes s.turns.out t.turns.out (ap (λ (q : queue.View). q.out) room)) h.after
 
   pub out_part : (s t : CoreState) (came : Taken) → IsSound t → GoesOut s came t → Part s t
-  out_part s t came sound h = queue_only s t sound (calls.take s.now s.turns t.turns (view_of s.board) came h.takes) h.after
+  out_part s t came sound h =
+      queue_only s t sound (calls.take s.now s.turns t.turns (view_of s.board) came h.takes)
+      (takes_keep s.lanes s.now s.turns t.turns came h.takes) h.after
 
   pub take_parts : (s t : CoreState) (answer : Told) → Holds s → IsSound t → TakesTurn s answer t → Parts s t
   take_parts s t answer o sound h =
@@ -197,6 +265,12 @@ module _ (lane_laws : LaneLaws) (laws : OtherLaws) (calls : CallLaws) where
       let at = rank h.turn.job.0 s.turns.out in
       let good = all_inserted IsTurn s.turns.out at h.turn (subst T out m.whole.turns.outs) in
       let known = all_inserted (IsAdded h.mid.turns.added) s.turns.out at h.turn (subst A out m.whole.known.outs) in
+      let is_out : IsTurnOut h.mid.turns.out (h.turn).job.0 (h.turn).rev = record {
+        turn = h.turn;
+        there = subst (λ (ts : List Turn). Contains ts h.turn) (sym out) (inserted_there s.turns.out at h.turn);
+        of_job = refl;
+        of_rev = refl;
+      } in
       next s h.mid t first (elim h.admits [
         | inl a ↦ one_part h.mid t (works (record {
           at = _;
@@ -204,7 +278,7 @@ module _ (lane_laws : LaneLaws) (laws : OtherLaws) (calls : CallLaws) where
           worked = a.worked;
           calls = a.calls;
           lawful = sound.lawful;
-          does = admits (by_turn h.turn a.row.spec) a.came (turn_task h.mid m h.turn a.row good known a.there) a.admits;
+          does = admits (by_turn h.turn a.row.spec) a.came (turn_task h.mid m h.turn a.row good known a.there) is_out a.admits;
         }))
         | inr b ↦ one_part h.mid t (board_only h.mid t
             (quiet_acts h.mid.board t.board sound.lawful ((place_of h.turn.job.0 h.turn.rev, word_of b.mark) ∷ []) b.finds.noted) b.after)
@@ -225,6 +299,7 @@ module _ (lane_laws : LaneLaws) (laws : OtherLaws) (calls : CallLaws) where
     lawful = sound.lawful;
     whole = sound.whole;
     gains = calls.settle s.now s.turns t.turns (view_of s.board) (view_of t.board) h.turn h.came o.whole (inr h.settles);
+    held = settles_keep calls.goes s.lanes job s.now s.turns t.turns (view_of s.board) (view_of t.board) h.turn h.came h.of_job h.none h.settles;
     after = h.after;
   })
 
@@ -329,6 +404,7 @@ module _ (lane_laws : LaneLaws) (laws : OtherLaws) (calls : CallLaws) where
         lawful = sound.lawful;
         whole = sound.whole;
         gains = subst M (sym made_is) (subst B (sym board_is) gains);
+        out = adds_out mid.turns (view_of s.board) (queued_from (length s.made) specs) t.turns (view_of t.board) h.adds;
         made = h.made ∙ ap (λ (made : List TaskSpec). made ++ specs) (sym made_is);
         after = h.after;
       })))
@@ -348,6 +424,7 @@ module _ (lane_laws : LaneLaws) (laws : OtherLaws) (calls : CallLaws) where
         lawful = before.lawful;
         whole = before.whole;
         gains = calls.none s.turns (view_of s.board);
+        out = refl;
         made = sym (append-nil s.made);
         after = refl;
       }))

@@ -5,13 +5,14 @@ use Rattle.hr_base.specs.declared.status.Status.{Status}
 use Rattle.hr_base.specs.declared.status.Status.TheVariants as status
 use Rattle.hr_base.specs.declared.status.Hook.{Hook}
 use Rattle.hr_event.specs.declared.task.TaskSpec.{TaskSpec}
+use Rattle.hr_event.specs.declared.task.Turn.{Turn}
 use Rattle.hr_board.specs.Plain.{IsLawful, view_of}
 use Rattle.hr_board.specs.View as board
 use Rattle.hr_board.specs.View.{Noted, Notes, Place, Word}
 use Rattle.hr_line.specs.Finals.{EndsHold}
 use Rattle.hr_line.specs.Hooks.{HooksTell}
 use Rattle.hr_line.specs.Orderly.{IsOrderly}
-use Rattle.hr_line.specs.State.{State}
+use Rattle.hr_line.specs.State.{State, held_at}
 use Rattle.hr_line.specs.declared.held.Admitted.{Admitted}
 use Rattle.hr_lane.specs.Admission.{AreNoted}
 use Rattle.hr_queue.specs.Gains.{Agrees}
@@ -78,6 +79,18 @@ pub record IsServing (made : List TaskSpec) (seen : board.View) (lane : State) :
   pub tasks : AllByRecursion (IsTask made) lane.admitted
   pub noted : AreNoted lane.admitted seen
 
+-- a turn of this job and revision is out
+pub record IsTurnOut (out : List Turn) (job rev : ℕ) : Type 0 where
+  pub turn : Turn
+  pub there : Contains out turn
+  pub of_job : turn.job.0 ≡ job
+  pub of_rev : turn.rev ≡ rev
+
+-- of each revision that a lane holds the turn is out
+abbrev pub HoldsOut : List Turn → State → Type 0
+HoldsOut out lane =
+    (job : ℕ) → IfSome (held_at lane.held job) (λ h. IsTurnOut out job h.by.rev)
+
 -- what holds of the core at every moment
 pub record Holds (s : CoreState) : Type 0 where
   -- of the board and of the queue
@@ -92,8 +105,9 @@ pub record Holds (s : CoreState) : Type 0 where
   pub planned : IfSome s.plan (AllByRecursion HasAttempts)
   pub rows : (job : ℕ) (row : RowState) → row_of_job job s.store.kept ≡ Some row
       → spec_of s.made job ≡ Some row.spec
-  -- each lane is in order
+  -- each lane is in order, and what it holds is out
   pub lanes : AllByRecursion (IsServing s.made (view_of s.board)) s.lanes
+  pub held : AllByRecursion (HoldsOut s.turns.out) s.lanes
   -- the emitted hooks are those of the lanes and those of stops
   pub shares : (g : Hook → ℕ)
       → sum_by g s.hooks ≡ sum_by (lane_weight g) s.lanes + sum_by (stop_weight g) s.hooks

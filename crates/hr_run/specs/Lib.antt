@@ -11,3 +11,5 @@ pub mod Delivering
 pub mod Does
 pub mod Finish
 pub mod Run
+pub mod Ready
+pub mod Arrives

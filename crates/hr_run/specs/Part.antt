@@ -9,6 +9,7 @@ use Rattle.hr_base.specs.declared.number.PolicyNo.{PolicyNo}
 use Rattle.hr_base.specs.declared.status.Hook.{Hook}
 use Rattle.hr_base.specs.declared.status.Status.TheVariants.{Stopped}
 use Rattle.hr_event.specs.declared.task.TaskSpec.{TaskSpec}
+use Rattle.hr_event.specs.declared.task.Turn.{Turn}
 use Rattle.hr_event.specs.declared.view.Received.{Received}
 use Rattle.hr_event.specs.declared.view.Trigger.{Trigger}
 use Rattle.hr_board.specs.Plain.{IsLawful, Plain, view_of}
@@ -29,7 +30,7 @@ use Rattle.hr_store.specs.Receiving.{ReceivesHook}
 use Rattle.hr_store.specs.Row.{RowState}
 use Rattle.hr_store.specs.Store.{row_of_job}
 use Rattle.hr_session.specs.Lane.{IsLaneSound}
-use Rattle.hr_run.specs.Holds.{HasAttempts, IsTask}
+use Rattle.hr_run.specs.Holds.{HasAttempts, HoldsOut, IsTask, IsTurnOut}
 use Rattle.hr_run.specs.State.{CoreState, hook_at, queued_from, spec_of, with_mark}
 
 -- what a part that opens no word does to the board: it notes words, and ends these
@@ -38,6 +39,11 @@ pub record Acts (b c : Plain) (ended : Notes) : Type 0 where
   pub kept : Keeps (view_of b) (view_of c)
   pub opens : c.past.opens ≡ b.past.opens
   pub finals : c.past.finals ≡ b.past.finals ++ ended
+
+-- what these lanes hold stays out
+abbrev pub KeepsOut : List State → List Turn → List Turn → Type 0
+KeepsOut lanes before after =
+    AllByRecursion (HoldsOut before) lanes → AllByRecursion (HoldsOut after) lanes
 
 -- ---- the parts
 
@@ -54,6 +60,7 @@ pub record Makes (s t : CoreState) : Type 0 where
   pub whole : IsWhole t.turns
   pub gains : Gains s.turns (view_of s.board) (queued_from (length s.made) specs)
       t.turns (view_of t.board)
+  pub out : t.turns.out ≡ s.turns.out
   pub made : t.made ≡ s.made ++ specs
   pub after : t ≡ record s { board = t.board; turns = t.turns; store = t.store; made = t.made }
 
@@ -62,15 +69,17 @@ pub record Turns (s t : CoreState) : Type 0 where
   pub lawful : IsLawful t.board.words t.board.past
   pub whole : IsWhole t.turns
   pub gains : Gains s.turns (view_of s.board) [] t.turns (view_of t.board)
+  pub held : KeepsOut s.lanes s.turns.out t.turns.out
   pub after : t ≡ record s { board = t.board; turns = t.turns }
 
 -- one call of a lane, with what it does to the board: it admits a revision of a job that was made,
--- or makes a step
-pub data LaneDoes (made : List TaskSpec) (lane worked : State) (v w : board.View) : Type 0 where
-  admits : (a : Admitted) (came : Admit) → IsTask made a → AdmitsWord lane worked a v w came
-      → LaneDoes made lane worked v w
+-- whose turn is out, or makes a step
+pub data LaneDoes (made : List TaskSpec) (out : List Turn) (lane worked : State)
+    (v w : board.View) : Type 0 where
+  admits : (a : Admitted) (came : Admit) → IsTask made a → IsTurnOut out a.job.0 a.rev
+      → AdmitsWord lane worked a v w came → LaneDoes made out lane worked v w
   steps : (job : JobNo) (came : Stepped) → Steps lane worked job v w came
-      → LaneDoes made lane worked v w
+      → LaneDoes made out lane worked v w
 
 -- the lane at a place was called, and the hooks that it gave, the newest first, were emitted: one
 -- at most
@@ -90,7 +99,7 @@ pub record Works (s t : CoreState) : Type 0 where
   pub lane : State
   pub worked : State
   pub calls : CallsLane s at lane worked t
-  pub does : LaneDoes s.made lane worked (view_of s.board) (view_of t.board)
+  pub does : LaneDoes s.made s.turns.out lane worked (view_of s.board) (view_of t.board)
   pub lawful : IsLawful t.board.words t.board.past
 
 -- the hook of a stop

@@ -5,6 +5,7 @@ ghost use Rattle.std.specs.List.{AllByRecursion};
 ghost use Rattle.hr_event.specs.declared.event.Event.{Event};
 ghost use Rattle.hr_event.specs.declared.task.TaskSpec.{TaskSpec};
 ghost use Rattle.hr_event.specs.declared.told.Told.{Told};
+ghost use Rattle.hr_print.specs.Text.{HasText};
 ghost use Rattle.hr_board.specs.Over.{IsOver};
 ghost use Rattle.hr_board.specs.Plain.{IsLawful, new_board};
 ghost use Rattle.hr_line.specs.Run.{IsOpening};
@@ -29,7 +30,11 @@ use hr_line::{
     lanes_stay_in_order, revisions_end_once, tags_are_finished_as_they_were_read,
     tags_of_runs_are_complete,
 };
-use hr_queue::{a_queue_agrees_with_its_board, done_jobs_were_over, gains_add_up, what_calls_gain};
+use hr_queue::{
+    a_queue_agrees_with_its_board, a_turn_taken_back_is_out_no_more, done_jobs_were_over,
+    gains_add_up, what_calls_gain,
+};
+use hr_session::steps_come_to_an_end;
 use hr_store::{
     a_taken_hook_is_put, hooks_reach_one_row, is_among_says_contains, row_ends_its_job,
     sweep_drops_rows_that_are_over,
@@ -100,6 +105,7 @@ pub fn events_are_parts()
     a_taken_hook_is_put();
     is_among_says_contains();
     what_calls_gain();
+    a_turn_taken_back_is_out_no_more();
     gains_add_up();
     sweep_drops_rows_that_are_over();
 }
@@ -187,4 +193,12 @@ pub fn answers_tell_words()
         → Holds s → IsSound t → Does s event answers t → AllByRecursion (TellsWord t.board) answers }
 {
     rows_tell_words();
+}
+
+/// A law: each answer to an event has a text.
+pub fn answers_have_texts()
+    ensures { (s t : CoreState) (event : Event) (answers : List Told)
+        → Does s event answers t → AllByRecursion HasText answers }
+{
+    steps_come_to_an_end();
 }
