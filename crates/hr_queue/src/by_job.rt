@@ -1,11 +1,5 @@
-//! The turns that are out, by job number. Each added job has a row, so that one that goes out or
-//! comes back is found by halves, and moves no other.
-ghost use Rattle.std.specs.Prelude.{◌≡◌, ◌<◌, ◌≤◌, ◌+◌, ◌==◌, MatchOption, length};
-ghost use Rattle.std.specs.BinaryHeap.{IsHeap, heap_items, heap_len, heap_capacity};
-ghost use Rattle.std.specs.List.{count_by};
-ghost use Rattle.std.specs.Vec.{vec_len, vec_capacity};
-ghost use Rattle.hr_queue.specs.ByJob.{with_turn, without_job, IsOut, NotOut, NoneOut};
-ghost use Rattle.hr_queue.specs.Rows.{outs};
+//! The turns that are out, by job number. Each added job has a row, so that a turn that goes out or
+//! comes back is found by a binary search, and moves no other.
 
 use crate::candidates::{drop_firsts, offer};
 use crate::rows::{Row, Side, find, known_row, row_of, write_row};
@@ -42,9 +36,9 @@ impl Model for ByJob {
 }
 
 impl ByJob {
-    ghost use Rattle.std.specs.Prelude.{◌≡◌, ℕ, ◌+◌, ◌≤◌, OnOk, MatchOption, cond, nat_eq, [], length, slice_get};
+    ghost use Rattle.std.specs.Prelude.{◌≡◌, ℕ, ◌+◌, ◌<◌, ◌≤◌, OnOk, MatchOption, cond, nat_eq, [], length, slice_get};
     ghost use Rattle.hr_queue.specs.ByJob.{IsOut, NoneOut, NotOut, with_turn, without_job};
-    ghost use Rattle.hr_queue.specs.Rows.{Rows, SameJobs, outs, times_row};
+    ghost use Rattle.hr_queue.specs.Rows.{SameJobs, outs, times_row};
     ghost use Rattle.hr_queue.specs.View.{times_in};
 
     /// No rows.

@@ -1,9 +1,6 @@
 //! The queue of turns: each added job waits, is delayed, is out, or is done. (Our own.)
-ghost use Rattle.std.specs.Prelude.{◌≡◌, ◌+◌, ◌^◌, ◌<◌, ◌≤◌, ◌++◌, OnOk, MatchOption, length, slice_get};
-ghost use Rattle.std.specs.BinaryHeap.{IsHeap, heap_items, heap_len, heap_capacity};
+ghost use Rattle.std.specs.Prelude.{◌≡◌, ◌≤◌, ◌++◌, OnOk, MatchOption, length, slice_get};
 ghost use Rattle.std.specs.List.{AllByRecursion};
-ghost use Rattle.std.specs.Vec.{vec_len, vec_capacity};
-ghost use Rattle.std.specs.VecDeque.{deque_len, deque_capacity};
 ghost use Rattle.hr_base.specs.declared.status.Status.TheVariants.{Pending};
 ghost use Rattle.hr_board.specs.Roles.{AllowsStatus, ServesQueue};
 ghost use Rattle.hr_board.specs.View.{Keeps};

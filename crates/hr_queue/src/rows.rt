@@ -1,5 +1,5 @@
 //! Rows of the jobs that were added, by job number. A row says whether the turn of its job is out.
-ghost use Rattle.std.specs.Prelude.{◌≡◌, ◌<◌, ◌≤◌, ◌+◌, MatchOption, length, slice_set};
+ghost use Rattle.std.specs.Prelude.{◌≡◌, ◌<◌, ◌≤◌, MatchOption, length, slice_set};
 ghost use Rattle.std.specs.Vec.{vec_len, vec_capacity};
 ghost use Rattle.hr_queue.specs.Rows.{is_out, is_candidate, row_rank, times_row, AreByJob, IsRow};
 
