@@ -91,8 +91,8 @@ pub record Rows : Type 0 where
   pub rows : List Row
   pub room : ℕ
 
--- so many rows, so many candidates, and room for each
-pub record HasPlaces (rows candidates room row_places candidate_places : ℕ) : Type 0 where
+-- so many rows are within the room, and there are places for as many rows and as many candidates
+pub record HasPlaces (rows room row_places candidate_places : ℕ) : Type 0 where
   pub within : rows ≤ room
   pub row_room : room ≤ row_places
   pub candidate_room : room ≤ candidate_places

@@ -31,8 +31,7 @@ impl Model for ByJob {
         AreCandidates t.rows.items (heap_items t.candidates) (heap_len t.candidates)
         × LeadsOut t.rows.items
         × IsHeap ⟦<Reverse<JobNo> as Ord>⟧.cmp (heap_items t.candidates)
-        × HasPlaces (vec_len t.rows) (heap_len t.candidates) t.room (vec_capacity t.rows)
-        (heap_capacity t.candidates) };
+        × HasPlaces (vec_len t.rows) t.room (vec_capacity t.rows) (heap_capacity t.candidates) };
 }
 
 impl ByJob {

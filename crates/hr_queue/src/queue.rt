@@ -131,6 +131,8 @@ impl Queue {
 
     /// Puts new jobs at the end of the waiting ones, in order, and opens the word of revision 0 of
     /// each as `Pending`. A word that is at another mark already stays, as one that was stopped.
+    /// Jobs that come by rising number are added fastest: one whose number is lower than that of
+    /// jobs added before takes time by how many those are.
     pub fn add<B: Board>(&mut self, board: &mut B, jobs: &[Queued])
         requires fit { AllByRecursion (IsFit (B.seen board.old).jobs) jobs.now }
         requires new { AreDistinct (self.old.added ++ jobs.now) }

@@ -1,7 +1,7 @@
 //! Rows of the jobs that were added, by job number. A row says whether the turn of its job is out.
 ghost use Rattle.std.specs.Prelude.{◌≡◌, ◌<◌, ◌≤◌, MatchOption, length, slice_set};
 ghost use Rattle.std.specs.Vec.{vec_len, vec_capacity};
-ghost use Rattle.hr_queue.specs.Rows.{is_out, is_candidate, row_rank, times_row, AreByJob, IsRow};
+ghost use Rattle.hr_queue.specs.Rows.{is_out, row_rank, times_row, AreByJob, IsRow};
 
 use hr_base::JobNo;
 use hr_event::Turn;
@@ -24,15 +24,6 @@ impl Side {
         match self {
             Side::Out => true,
             _ => false,
-        }
-    }
-
-    pub(crate) fn is_candidate(self) -> bool
-        ensures { result ≡ is_candidate self }
-    {
-        match self {
-            Side::In => false,
-            _ => true,
         }
     }
 }
