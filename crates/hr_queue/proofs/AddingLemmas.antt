@@ -1,5 +1,5 @@
 -- Lemmas on the words of specs/Adding.antt: the jobs of a list are added one by one.
-use Rattle.std.proofs.Common.{◌≡◌, ℕ, ◌+◌, ◌<◌, Bool, cond, List, [], ◌∷◌, ◌++◌, length, get_or, take, drop, refl, sym, ap, ◌∙◌, subst, append_assoc, arith, eq-eqb}
+use Rattle.std.proofs.Common.{◌≡◌, ℕ, ◌+◌, ◌-◌, ◌<◌, Bool, cond, List, [], ◌∷◌, ◌++◌, length, get_or, take, drop, refl, sym, ap, ◌∙◌, subst, append_assoc, arith, eq-eqb}
 use Rattle.std.proofs.lemmas.List.{append-nil, take_more, drop_more}
 use Rattle.std.proofs.lemmas.List.Sums.{sum_by-append, sum_by-cons}
 use Rattle.std.specs.Prelude.{nat_eq}
@@ -64,3 +64,12 @@ keeps_after b c d first second = record {
   notes = second.notes ∙ ap (λ (notes : Notes). notes ++ second.more) first.notes
       ∙ append_assoc b.notes first.more second.more;
 }
+
+-- the jobs that were added, and for how many more there is room, after one job
+pub added_one : (q : View) (b : board.View) (job : Queued) (r : View) (c : board.View)
+    → AddsOne q b job r c → r.added ≡ q.added ++ job ∷ []
+added_one q b job r c one = ap (λ (v : View). v.added) one.after
+
+pub spare_one : (q : View) (b : board.View) (job : Queued) (r : View) (c : board.View)
+    → AddsOne q b job r c → r.spare ≡ q.spare - 1
+spare_one q b job r c one = ap (λ (v : View). v.spare) one.after

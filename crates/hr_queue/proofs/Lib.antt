@@ -1,7 +1,10 @@
 mod AddingLemmas
 mod ByJobLemmas
+mod CandidateLemmas
 mod DelayedLemmas
+mod FindLemmas
 mod GainsLemmas
 mod ListLemmas
+mod RowLemmas
 mod SettlingLemmas
 mod WholeLemmas

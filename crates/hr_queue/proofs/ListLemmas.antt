@@ -1,5 +1,5 @@
 -- Lemmas on lists alone: what holds of all items, and how often jobs stand there.
-use Rattle.std.proofs.Common.{◌≡◌, ◌≢◌, ℕ, zero, suc, ◌<◌, ◌≤◌, inl, inr, Bool, true, cond, List, [], ◌∷◌, ◌++◌, length, get_or, refl, sym, ap, ◌∙◌, subst, arith, eq-eqb}
+use Rattle.std.proofs.Common.{◌≡◌, ◌≢◌, ℕ, zero, suc, ◌<◌, ◌≤◌, inl, inr, Bool, true, cond, List, [], ◌∷◌, ◌++◌, length, get_or, Some, refl, sym, ap, ◌∙◌, subst, arith, eq-eqb}
 use Rattle.std.proofs.lemmas.Bool.{cases_Bool}
 use Rattle.std.proofs.lemmas.Bool.Decides.{eqb_tells}
 use Rattle.std.proofs.lemmas.List.Elements.{All-from_recursion, recursion_from_All}
@@ -7,7 +7,7 @@ use Rattle.std.proofs.lemmas.List.Sorted.{All-permutation}
 use Rattle.std.proofs.lemmas.List.Sums.{sum_by-cons, sum_by_push}
 use Rattle.std.specs.List.{AllByRecursion, Contains, count_by, insert, remove}
 use Rattle.std.specs.List.Sorted.{IsPermutation}
-use Rattle.std.specs.Prelude.{nat_eq}
+use Rattle.std.specs.Prelude.{nat_eq, slice_get, slice_set}
 use Rattle.hr_queue.specs.declared.answer.Queued.{Queued}
 use Rattle.hr_queue.specs.View.{AreDistinct, times_added}
 
@@ -57,7 +57,27 @@ all-at P [] i x all within is = absurd (omega (arith, within))
 all-at P (y ∷ ys) zero x all within is = subst P is all.0
 all-at P (y ∷ ys) (suc i) x all within is = all-at P ys i x all.1 (omega (arith, within)) is
 
-abbrev one_if : Bool → ℕ
+pub stands_at : {X : Type 0} (xs : List X) (i : ℕ) (x : X) → slice_get xs i ≡ Some x
+    → (i < length xs) × (x ≡ get_or xs i x)
+stands_at [] zero x e = absurd (cc)
+stands_at [] (suc i) x e = absurd (cc)
+stands_at (y ∷ ys) zero x e = (omega arith, cc)
+stands_at (y ∷ ys) (suc i) x e = let rest = stands_at ys i x e in (omega (arith, rest.0), rest.1)
+
+pub length-set : {X : Type 0} (xs : List X) (i : ℕ) (x : X) → length (slice_set xs i x) ≡ length xs
+length-set [] zero x = refl
+length-set [] (suc i) x = refl
+length-set (y ∷ ys) zero x = refl
+length-set (y ∷ ys) (suc i) x = ap suc (length-set ys i x)
+
+pub some_is : {X : Type 0} (x y : X) → Some x ≡ Some y → x ≡ y
+some_is x y e = cc
+
+pub count_by-more : {X : Type 0} (p : X → Bool) (x : X) (xs : List X)
+    → count_by p xs ≤ count_by p (x ∷ xs)
+count_by-more p x xs = let e = sum_by-cons (λ y. cond (p y) 1 0) x xs in omega (arith, e)
+
+abbrev pub one_if : Bool → ℕ
 one_if b = cond b 1 0
 
 -- an item that passes a test is counted

@@ -1,5 +1,5 @@
 -- Lemmas on the words of specs/Whole.antt: each move of a turn keeps every job in one list.
-use Rattle.std.proofs.Common.{◌≡◌, ℕ, ◌+◌, ◌<◌, ◌≤◌, Bool, true, false, cond, List, [], ◌∷◌, ◌++◌, refl, sym, ap, ◌∙◌, subst, arith, eq-eqb, inl, inr}
+use Rattle.std.proofs.Common.{◌≡◌, ℕ, ◌+◌, ◌<◌, ◌≤◌, Bool, true, false, cond, List, [], ◌∷◌, ◌++◌, length, refl, sym, ap, ◌∙◌, subst, arith, eq-eqb, inl, inr}
 use Rattle.std.proofs.lemmas.Bool.Decides.{eqb_tells}
 use Rattle.std.proofs.lemmas.List.Elements.{All-from_recursion, Contains-append_left, Contains-push}
 use Rattle.std.proofs.lemmas.List.Sorted.{sum_by_popped, sum_by_pushed}
@@ -14,12 +14,15 @@ use Rattle.hr_queue.specs.declared.answer.Queued.{Queued}
 use Rattle.hr_queue.specs.declared.delayed.Delayed.{Delayed}
 use Rattle.hr_queue.specs.Adding.{first_turn}
 use Rattle.hr_queue.specs.ByJob.{rank, with_turn, without_job}
+use Rattle.hr_queue.specs.declared.rows.Row.{Row}
+use Rattle.hr_queue.specs.Room.{HasRows}
+use Rattle.hr_queue.specs.Rows.{SameJobs, times_row}
 use Rattle.hr_queue.specs.Settling.{back_of, done_of}
 use Rattle.hr_queue.specs.Taking.{IsDue}
 use Rattle.hr_queue.specs.View.{View, turn_of, job_of, times_in, times_delayed, times_added}
 use Rattle.hr_queue.specs.Whole.{IsTurn, IsAdded, HoldEach}
 use Rattle.hr_queue.proofs.ByJobLemmas.{StandsAt, rising-insert, rising-remove}
-use Rattle.hr_queue.proofs.ListLemmas.{all-insert, all-remove, all-push, all-weaker, all-permuted}
+use Rattle.hr_queue.proofs.ListLemmas.{all-insert, all-remove, all-push, all-weaker, all-permuted, once}
 
 -- how much a turn, a delayed one, a done job and an added one add to the count of a job
 abbrev weight : ℕ → Turn → ℕ
@@ -86,6 +89,15 @@ module _ (waiting : List Turn) (delayed : List Delayed) (out : List Turn) (done 
       let few = whole.distinct t.job.0 in
       omega (arith, counts, one, all, few)
 
+  -- and its job has a row
+  pub due_known : (now : ℕ) (t : Turn) (left : List Delayed) (rows : List Row) (jobs : ℕ)
+      → HoldEach waiting delayed out done added → IsDue now delayed t left
+      → HasRows rows added jobs → 1 ≤ times_row rows t.job.0
+  due_known now t left rows jobs whole due has =
+      let known = (due_all (IsAdded added) now delayed left t whole.known.delays due).0 in
+      let one = once added (record { job = t.job; attempts = t.attempts }) whole.distinct known in
+      let rows_of = has.each t.job.0 in omega (arith, one, rows_of)
+
   pub whole_due : (now : ℕ) (t : Turn) (left : List Delayed) (outs : List Turn)
       → HoldEach waiting delayed out done added → IsDue now delayed t left
       → outs ≡ with_turn out t → HoldEach waiting left outs done added
@@ -135,6 +147,15 @@ module _ (waiting : List Turn) (delayed : List Delayed) (out : List Turn) (done 
       let all = whole.once t.job.0 in
       let few = whole.distinct t.job.0 in
       omega (arith, counts, one, all, few)
+
+  -- and its job has a row
+  pub first_known : (t : Turn) (left : List Turn) (rows : List Row) (jobs : ℕ)
+      → HoldEach waiting delayed out done added → waiting ≡ t ∷ left → HasRows rows added jobs
+      → 1 ≤ times_row rows t.job.0
+  first_known t left rows jobs whole is has =
+      let known = (first_all (IsAdded added) waiting left t whole.known.waits is).0 in
+      let one = once added (record { job = t.job; attempts = t.attempts }) whole.distinct known in
+      let rows_of = has.each t.job.0 in omega (arith, one, rows_of)
 
   pub whole_first : (t : Turn) (left outs : List Turn) → HoldEach waiting delayed out done added
       → waiting ≡ t ∷ left → outs ≡ with_turn out t → HoldEach left delayed outs done added
@@ -302,6 +323,28 @@ module _ (waiting : List Turn) (delayed : List Delayed) (out : List Turn) (done 
               | inr other ↦ (let zero_here = ap one_if other.0 in omega (arith, added_more, few, zero_here))
             ];
       })
+
+-- rows of the same jobs are those of the added jobs still
+pub rows_same : (rows after : List Row) (added : List Queued) (jobs : ℕ) → SameJobs rows after
+    → HasRows rows added jobs → HasRows after added jobs
+rows_same rows after added jobs same has = record {
+  count = same.len ∙ has.count;
+  each = λ job. same.each job ∙ has.each job;
+}
+
+-- and with a row for one more
+pub rows_add : (rows after : List Row) (added adds : List Queued) (jobs : ℕ) (job : Queued)
+    → HasRows rows added jobs → adds ≡ added ++ job ∷ [] → length after ≡ length rows + 1
+    → ((n : ℕ) → times_row after n ≡ times_row rows n + cond (nat_eq job.job.0 n) 1 0)
+    → HasRows after adds (jobs + 1)
+rows_add rows after added adds jobs job has is len each = rw is (record {
+  count = (let count = has.count in omega (arith, len, count));
+  each = λ n.
+      let more = sum_by_push (weight_added n) added job in
+      let old = has.each n in
+      let now = each n in
+      omega (arith, more, old, now);
+})
 
 -- the queue after each way in which a turn comes back
 pub back_is : (q : View) (t : Turn) (at : ℕ) (waits outs : List Turn) → StandsAt q.out t at

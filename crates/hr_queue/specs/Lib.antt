@@ -3,6 +3,7 @@ pub mod ByJob
 pub mod Fate
 pub mod Gains
 pub mod Room
+pub mod Rows
 pub mod Settling
 pub mod Taking
 pub mod View

@@ -4,10 +4,12 @@
 
 mod answer;
 mod by_job;
+mod candidates;
 mod delayed;
 mod fate;
 mod laws;
 mod queue;
+mod rows;
 #[cfg(test)]
 mod tests;
 

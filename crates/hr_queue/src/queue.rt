@@ -1,17 +1,13 @@
 //! The queue of turns: each added job waits, is delayed, is out, or is done. (Our own.)
-ghost use Rattle.std.specs.Prelude.{◌≡◌, ◌+◌, ◌^◌, ◌<◌, ◌≤◌, ◌++◌, OnOk, MatchOption, length, slice_get};
-ghost use Rattle.std.specs.BinaryHeap.{IsHeap, heap_items, heap_len, heap_capacity};
+ghost use Rattle.std.specs.Prelude.{◌≡◌, ◌≤◌, ◌++◌, OnOk, MatchOption, length, slice_get};
 ghost use Rattle.std.specs.List.{AllByRecursion};
-ghost use Rattle.std.specs.Vec.{vec_len, vec_capacity};
-ghost use Rattle.std.specs.VecDeque.{deque_len, deque_capacity};
 ghost use Rattle.hr_base.specs.declared.status.Status.TheVariants.{Pending};
 ghost use Rattle.hr_board.specs.Roles.{AllowsStatus, ServesQueue};
 ghost use Rattle.hr_board.specs.View.{Keeps};
 ghost use Rattle.hr_queue.specs.Adding.{IsFit};
-ghost use Rattle.hr_queue.specs.Taking.{Rests};
 
 use crate::answer::{DoneJob, Queued, Settled, Taken};
-use crate::by_job::{find, held_at, out_at, put_out, take_out};
+use crate::by_job::ByJob;
 use crate::delayed::{Delayed, delay, take_due};
 use crate::fate::{Fate, look_after};
 use hr_base::{JobNo, Mark, Memory, Moment, Status, Trace};
@@ -27,7 +23,7 @@ use std::marker::Model;
 pub struct Queue {
     waiting: VecDeque<Turn>,
     delayed: BinaryHeap<Delayed>,
-    out: VecDeque<Turn>,
+    out: ByJob,
     done: Vec<DoneJob>,
     jobs: u32,
     room: u32,
@@ -35,11 +31,12 @@ pub struct Queue {
 }
 
 impl Model for Queue {
-    ghost use Rattle.std.specs.Prelude.{◌+◌, ◌-◌};
+    ghost use Rattle.std.specs.Prelude.{◌+◌, ◌-◌, length};
     ghost use Rattle.std.specs.VecDeque.{deque_len, deque_capacity};
     ghost use Rattle.std.specs.Vec.{vec_len, vec_capacity};
     ghost use Rattle.std.specs.BinaryHeap.{IsHeap, heap_items, heap_len, heap_capacity};
-    ghost use Rattle.hr_queue.specs.Room.{HasRoom};
+    ghost use Rattle.hr_queue.specs.Room.{HasRoom, HasRows};
+    ghost use Rattle.hr_queue.specs.Rows.{outs};
     ghost use Rattle.hr_queue.specs.View.{View};
     ghost use Rattle.hr_queue.specs.Whole.{HoldEach};
 
@@ -48,27 +45,29 @@ impl Model for Queue {
     ghost view = { λ q. record {
       waiting = q.waiting.items;
       delayed = heap_items q.delayed;
-      out = q.out.items;
+      out = outs q.out.rows;
       done = q.done.items;
       added = q.added.items;
       spare = q.room - q.jobs;
     } };
 
     ghost invariant = { λ q.
-        HoldEach q.waiting.items (heap_items q.delayed) q.out.items q.done.items q.added.items
+        HoldEach q.waiting.items (heap_items q.delayed) (outs q.out.rows) q.done.items
+        q.added.items
         × IsHeap ⟦<Delayed as Ord>⟧.cmp (heap_items q.delayed)
+        × HasRows q.out.rows q.added.items q.jobs
         × HasRoom q.jobs q.room
-        (deque_len q.waiting + heap_len q.delayed + deque_len q.out + vec_len q.done)
-        (deque_capacity q.waiting) (heap_capacity q.delayed) (deque_capacity q.out)
+        (deque_len q.waiting + heap_len q.delayed + length (outs q.out.rows) + vec_len q.done)
+        (deque_capacity q.waiting) (heap_capacity q.delayed) q.out.room
         (vec_capacity q.done) };
 }
 
 impl Queue {
-    ghost use Rattle.std.specs.Prelude.{MatchOption, ◌≡◌, ◌++◌, slice_get};
+    ghost use Rattle.std.specs.Prelude.{MatchOption, ◌≡◌, ◌++◌, length, slice_get};
     ghost use Rattle.hr_queue.specs.Adding.{Adds, AddsOne};
     ghost use Rattle.hr_queue.specs.ByJob.{IsOut, NoneOut};
     ghost use Rattle.hr_queue.specs.Settling.{Settles};
-    ghost use Rattle.hr_queue.specs.Taking.{Takes};
+    ghost use Rattle.hr_queue.specs.Taking.{Rests, Takes};
     ghost use Rattle.hr_queue.specs.View.{View, empty_queue, AreDistinct, times_added};
     ghost use Rattle.hr_queue.specs.Whole.{IsWhole};
 
@@ -79,7 +78,7 @@ impl Queue {
         Queue {
             waiting: VecDeque::new(alloc),
             delayed: BinaryHeap::new(alloc),
-            out: VecDeque::new(alloc),
+            out: ByJob::new(alloc),
             done: Vec::new(alloc),
             jobs: 0,
             room: 0,
@@ -102,7 +101,7 @@ impl Queue {
         let all = room as usize;
         self.waiting.reserve(all - self.waiting.len())?;
         self.delayed.reserve(all - self.delayed.len())?;
-        self.out.reserve(all - self.out.len())?;
+        self.out.reserve(all)?;
         self.done.reserve(all - self.done.len())?;
         self.room = room;
         Ok(())
@@ -119,17 +118,21 @@ impl Queue {
         ensures same { B.same board.old board.new }
     {
         let _ = board.advance(job.job, 0, Mark::Unopened, Mark::At(Status::Pending));
-        self.waiting.push_back_reserved(Turn {
+        let turn = Turn {
             job: job.job,
             rev: 0,
             attempts: job.attempts,
-        });
+        };
+        self.waiting.push_back_reserved(turn);
+        self.out.add(turn);
         self.added = self.added.then(&job);
         self.jobs += 1;
     }
 
     /// Puts new jobs at the end of the waiting ones, in order, and opens the word of revision 0 of
     /// each as `Pending`. A word that is at another mark already stays, as one that was stopped.
+    /// Jobs that come by rising number are added fastest: one whose number is lower than that of
+    /// jobs added before takes time by how many those are.
     pub fn add<B: Board>(&mut self, board: &mut B, jobs: &[Queued])
         requires fit { AllByRecursion (IsFit (B.seen board.old).jobs) jobs.now }
         requires new { AreDistinct (self.old.added ++ jobs.now) }
@@ -150,14 +153,36 @@ impl Queue {
         ensures { Takes now.0 self.old result self.new }
     {
         if let Some(turn) = take_due(&mut self.delayed, now) {
-            put_out(&mut self.out, turn);
+            self.out.put_out(turn);
             return Taken::Turn(turn);
         }
         if let Some(turn) = self.waiting.pop_front() {
-            put_out(&mut self.out, turn);
+            self.out.put_out(turn);
             return Taken::Turn(turn);
         }
-        rest(&self.delayed, &self.out)
+        self.rest()
+    }
+
+    // How many turns are out.
+    fn count_out(&self) -> u32
+        ensures { result ≡ length self.now.out }
+    {
+        let jobs = self.jobs;
+        let others = self.waiting.len() + self.delayed.len() + self.done.len();
+        jobs - others as u32
+    }
+
+    // Why no turn goes out, where none is due and none waits.
+    fn rest(&self) -> Taken
+        ensures { Rests self.now.delayed self.now.out result }
+    {
+        if let Some(first) = self.delayed.peek() {
+            return Taken::Later { due: first.due() };
+        }
+        match self.count_out() {
+            0 => Taken::Idle,
+            out => Taken::Busy { out },
+        }
     }
 
     /// Takes back the turn of a job and revision that is out. What becomes of it goes by its word,
@@ -172,18 +197,17 @@ impl Queue {
         ensures kept { Keeps (B.seen board.old) (B.seen board.new) }
         ensures same { B.same board.old board.new }
     {
-        let at = find(&self.out, turn.job);
-        let Some(held) = held_at(&self.out, at, turn) else {
+        let Some(held) = self.out.held(turn) else {
             return Settled::NotOut;
         };
         match look_after(board, held) {
             Fate::Unfinished => {
-                take_out(&mut self.out, at);
+                self.out.take_back(held.job);
                 self.waiting.push_back_reserved(held);
                 Settled::Back
             }
             Fate::Over(rev, status) => {
-                take_out(&mut self.out, at);
+                self.out.take_back(held.job);
                 self.done.push_reserved(DoneJob {
                     job: held.job,
                     rev,
@@ -192,7 +216,7 @@ impl Queue {
                 Settled::Done(status)
             }
             Fate::Next => {
-                take_out(&mut self.out, at);
+                self.out.take_back(held.job);
                 Settled::Again {
                     due: delay(&mut self.delayed, held, now),
                 }
@@ -205,15 +229,14 @@ impl Queue {
         ensures { MatchOption result (NoneOut self.now.out job) (λ turn.
             (turn.job ≡ job) × IsOut self.now.out turn turn) }
     {
-        let at = find(&self.out, job);
-        out_at(&self.out, at, job)
+        self.out.of(job)
     }
 
     /// The turn that is out of the least job, where one is out.
     pub fn adopt(&self) -> Option<Turn>
         ensures { result ≡ slice_get self.now.out 0 }
     {
-        self.out.front().copied()
+        self.out.first()
     }
 
     /// The jobs that are over, in the order in which they ended.
@@ -228,20 +251,5 @@ impl Queue {
         ensures { IsWhole self.now }
     {
         let _ = &self.done;
-    }
-}
-
-// Why no turn goes out, where none is due and none waits.
-fn rest(delayed: &BinaryHeap<Delayed>, out: &VecDeque<Turn>) -> Taken
-    requires heap { IsHeap ⟦<Delayed as Ord>⟧.cmp (heap_items delayed.now) }
-    requires few { length out.now.items < 2 ^ 32 }
-    ensures { Rests (heap_items delayed.now) out.now.items result }
-{
-    if let Some(first) = delayed.peek() {
-        return Taken::Later { due: first.due() };
-    }
-    match out.len() {
-        0 => Taken::Idle,
-        len => Taken::Busy { out: len as u32 },
     }
 }

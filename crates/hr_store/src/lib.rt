@@ -11,6 +11,8 @@ mod refusal;
 mod row;
 mod store;
 mod sweeping;
+#[cfg(test)]
+mod tests;
 
 pub use laws::{
     a_new_execution_is_found, a_taken_hook_is_put, hooks_reach_one_row, is_among_says_contains,

@@ -1,8 +1,6 @@
-use Rattle.std.proofs.Common.{ℕ, List, ap, arith}
+use Rattle.std.proofs.Common.{arith}
 use Rattle.hr_queue.specs.Adding.{Adds}
-use Rattle.hr_queue.specs.View.{View}
-use Rattle.hr_queue.specs.declared.answer.Queued.{Queued}
-use Rattle.hr_queue.proofs.AddingLemmas.{keeps_itself, keeps_after, next_new, still_distinct, adds_more}
+use Rattle.hr_queue.proofs.AddingLemmas.{keeps_itself, keeps_after, next_new, still_distinct, adds_more, added_one, spare_one}
 use Rattle.hr_queue.proofs.queue.Queue.add.Goals as goal
 
 pub loop-job-init : goal.loop-job-init
@@ -21,13 +19,11 @@ add_one-requires-clause-new g c =
 
 pub loop-job-preserved : goal.loop-job-preserved
 loop-job-preserved g c =
-    let added : View → List Queued = λ q. q.added in
-    let spare : View → ℕ = λ q. q.spare in
     record {
       adds = adds_more _ _ _ _ _ _ _ _ _ c.loop-job-test.true c.loop-job.invariant.adds c.add_one.ensures.adds;
       kept = keeps_after _ _ _ c.loop-job.invariant.kept c.add_one.ensures.kept;
       same = g.met.B.Board.same_after _ _ _ c.loop-job.invariant.same c.add_one.ensures.same;
       new = still_distinct _ _ _ _ _ c.loop-job-test.true c.loop-job.invariant.new
-          (ap added c.add_one.ensures.adds.after);
-      room = omega (arith, ap spare c.add_one.ensures.adds.after, c.loop-job.invariant.room);
+          (added_one _ _ _ _ _ c.add_one.ensures.adds);
+      room = omega (arith, spare_one _ _ _ _ _ c.add_one.ensures.adds, c.loop-job.invariant.room);
     }

@@ -1,10 +1,10 @@
 use Rattle.std.proofs.Common.{◌≡◌, ℕ, length, arith, subst}
-use Rattle.hr_queue.proofs.ByJobLemmas.{NotLower, not_lower-end, not_lower-from, lower-to, rank_is}
-use Rattle.hr_queue.proofs.by_job.find.Goals as goal
+use Rattle.hr_queue.proofs.FindLemmas.{NotLower, not_lower-end, not_lower-from, lower-to, rank_is}
+use Rattle.hr_queue.proofs.rows.find.Goals as goal
 
 pub halves-init : goal.halves-init
 halves-init c =
-    let end : c.len-high.result ≡ length c.args.turns.now.items = grind arith in
+    let end : c.len-high.result ≡ length c.args.rows.now.items = grind arith in
     record {
       lower = tt;
       others = not_lower-end _ _ _ end;
@@ -28,8 +28,8 @@ halves-preserved c = record {
   within = omega arith;
 }
 
-pub returns : goal.returns
-returns c =
+pub returns-clause-is : goal.returns-clause-is
+returns-clause-is c =
     let met : c.halves.high ≡ c.halves.low = omega arith in
-    let P : ℕ → Type 0 = λ n. NotLower n c.args.job.0 c.args.turns.now.items in
+    let P : ℕ → Type 0 = λ n. NotLower n c.args.job.0 c.args.rows.now.items in
     rank_is c.halves.low _ _ c.halves.invariant.lower (subst P met c.halves.invariant.others) (omega arith)
