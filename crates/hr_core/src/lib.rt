@@ -1,0 +1,11 @@
+//! The core: lanes, a board, a queue and a store behind one call, which does what an event says. What
+//! each event does is a relation of hr_run; start with `engine`.
+#![tactic(auto)]
+
+mod asking;
+mod engine;
+mod made;
+mod passing;
+mod stopping;
+
+pub use engine::Core;
