@@ -13,3 +13,5 @@ mod FinishLemmas
 mod PromiseLemmas
 mod TellLemmas
 mod AnswerLemmas
+mod MoveLemmas
+mod ReadyLemmas

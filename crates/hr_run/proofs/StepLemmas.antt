@@ -1,5 +1,5 @@
 -- What each event does is made of parts.
-use Rattle.std.proofs.Common.{◌≡◌, inl, inr, refl, sym, ap, subst, ◌∙◌, zero, suc, ℕ, ◌+◌, ◌≤◌, Bool, true, List, [], ◌∷◌, ◌++◌, length, arith}
+use Rattle.std.proofs.Common.{◌≡◌, inl, inr, refl, sym, ap, subst, ◌∙◌, zero, suc, ℕ, ◌+◌, ◌≤◌, Bool, true, List, [], ◌∷◌, ◌++◌, length, slice_get, arith}
 use Rattle.std.proofs.lemmas.Bool.Decides.{nat_tests}
 use Rattle.std.proofs.lemmas.List.{append-nil}
 use Rattle.std.specs.Prelude.{Option, Some, None, IfSome, nat_le, nat_lt, ◌&&◌}
@@ -53,6 +53,7 @@ use Rattle.hr_run.specs.Triggering.Triggers.{creates, fails, is_full, no_policy}
 use Rattle.hr_run.proofs.DoneLemmas.{queued_made, made_spec}
 use Rattle.hr_run.proofs.KeepsLemmas.{OtherLaws, keeps_parts}
 use Rattle.hr_run.proofs.LaneLemmas.{LaneLaws, quiet_acts, still_acts}
+use Rattle.hr_run.proofs.ListLemmas.{all_both, all_then, inserted_keeps, inserted_there, removed_keeps}
 use Rattle.hr_run.proofs.MarkLemmas.{hook_all}
 
 -- a turn that is given back goes, and no other
@@ -156,7 +157,7 @@ out_more lanes before after turn is are =
 -- where no lane holds a job, its turn may go
 turn_less : (out : List Turn) (i : ℕ) (gone : Turn) (lane : State) (gone_job : ℕ) → slice_get out i ≡ Some gone → gone.job.0 ≡ gone_job
     → HoldsOut out lane → held_at lane.held gone_job ≡ None → HoldsOut (remove out i) lane
-turn_less out i gone lane gone_job there of_job has none job = by (held_at lane.held job) refl (has job)
+turn_less out i gone lane gone_job there of_job has free job = by (held_at lane.held job) refl (has job)
   where
     by : (o : Option Held) → held_at lane.held job ≡ o → IfSome o (λ h. IsTurnOut out job h.by.rev)
         → IfSome o (λ h. IsTurnOut (remove out i) job h.by.rev)
@@ -165,7 +166,7 @@ turn_less out i gone lane gone_job there of_job has none job = by (held_at lane.
       turn = is.turn;
       there = removed_keeps out i gone is.turn there is.there (λ same.
         (let j : gone_job ≡ job = sym of_job ∙ ap (λ (t : Turn). t.job.0) same ∙ is.of_job in
-        let k = sym none ∙ ap (held_at lane.held) j ∙ e in cc));
+        let k = sym free ∙ ap (held_at lane.held) j ∙ e in cc));
       of_job = is.of_job;
       of_rev = is.of_rev;
     }
@@ -178,18 +179,18 @@ takes_keep lanes now q r taken.Idle h = out_same lanes q.out r.out (ap (λ (v : 
 
 settles_keep : OneGoes → (lanes : List State) (job : JobNo) (now : ℕ) (q r : queue.View) (b c : board.View) (turn : Turn) (came : Settled)
     → turn.job ≡ job → NoneHolds lanes job → SettlesHeld now q b turn came r c → KeepsOut lanes q.out r.out
-settles_keep goes lanes job now q r b c turn came of_job none h are =
+settles_keep goes lanes job now q r b c turn came of_job free h are =
     let held = h.held in
     let job_is : held.job.0 ≡ job.0 = ap (λ (j : JobNo). j.0) (h.out.job ∙ of_job) in
     let at = rank turn.job.0 q.out in
     subst (λ (ts : List Turn). AllByRecursion (HoldsOut ts) lanes) (sym (goes now q r b c turn came h))
     (all_both (HoldsOut q.out) (λ lane. held_at lane.held job.0 ≡ None) (HoldsOut (without_job q.out turn.job.0))
-    (λ lane. turn_less q.out at held lane job.0 h.out.there job_is) lanes are none)
+    (λ lane. turn_less q.out at held lane job.0 h.out.there job_is) lanes are free)
 
-adds_out : (q r : queue.View) (b c : board.View) (jobs : List Queued) → Adds q b jobs r c → r.out ≡ q.out
-adds_out q _ b _ _ Adds.none_yet = refl
-adds_out q r b c _ (Adds.one_more jobs job m _ d _ adds one) =
-    ap (λ (v : queue.View). v.out) one.after ∙ adds_out q m b d jobs adds
+adds_out : (q : queue.View) (b : board.View) (jobs : List Queued) (r : queue.View) (c : board.View) → Adds q b jobs r c → r.out ≡ q.out
+adds_out q b _ _ _ Adds.none_yet = refl
+adds_out q b _ r c (Adds.one_more jobs job m _ d _ adds one) =
+    ap (λ (v : queue.View). v.out) one.after ∙ adds_out q b jobs m d adds
 
 -- a revision of a job whose row is kept, by a turn of the queue
 turn_task : (m : CoreState) → Holds m → (turn : Turn) (row : RowState) → IsTurn turn → IsAdded m.turns.added turn
@@ -403,7 +404,7 @@ module _ (lane_laws : LaneLaws) (laws : OtherLaws) (calls : CallLaws) where
         lawful = sound.lawful;
         whole = sound.whole;
         gains = subst M (sym made_is) (subst B (sym board_is) gains);
-        out = adds_out mid.turns t.turns (view_of s.board) (view_of t.board) (queued_from (length s.made) specs) h.adds;
+        out = adds_out mid.turns (view_of s.board) (queued_from (length s.made) specs) t.turns (view_of t.board) h.adds;
         made = h.made ∙ ap (λ (made : List TaskSpec). made ++ specs) (sym made_is);
         after = h.after;
       })))

@@ -12,3 +12,4 @@ pub mod Does
 pub mod Finish
 pub mod Run
 pub mod Ready
+pub mod Arrives

@@ -5,7 +5,7 @@
 mod laws;
 
 pub use laws::{
-    answers_tell_words, done_after_finish, done_when_finished, each_end_has_one_hook,
+    answers_tell_words, core_stays_ready, done_after_finish, done_when_finished, each_end_has_one_hook,
     events_are_parts, hooks_are_covered, lanes_keep_their_promise, lanes_run, one_final_status,
     parts_keep, rows_tell_words, swept_jobs_are_over, the_core_holds,
 };

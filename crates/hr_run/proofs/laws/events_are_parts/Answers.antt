@@ -27,6 +27,7 @@ returns-clause-does c s t =
       add = c.what_calls_gain.ensures.add;
       settle = c.what_calls_gain.ensures.settle;
       none = c.gains_add_up.ensures.none;
+      goes = c.a_turn_taken_back_is_out_no_more.ensures;
       sweeps = c.sweep_drops_rows_that_are_over.ensures;
     } in
     event_parts lanes laws calls s t
@@ -54,6 +55,7 @@ returns-clause-cut c s t =
       add = c.what_calls_gain.ensures.add;
       settle = c.what_calls_gain.ensures.settle;
       none = c.gains_add_up.ensures.none;
+      goes = c.a_turn_taken_back_is_out_no_more.ensures;
       sweeps = c.sweep_drops_rows_that_are_over.ensures;
     } in
     cut_parts lanes laws calls s t
@@ -81,6 +83,7 @@ returns-clause-runs c s t =
       add = c.what_calls_gain.ensures.add;
       settle = c.what_calls_gain.ensures.settle;
       none = c.gains_add_up.ensures.none;
+      goes = c.a_turn_taken_back_is_out_no_more.ensures;
       sweeps = c.sweep_drops_rows_that_are_over.ensures;
     } in
     runs_parts lanes laws calls s t
