@@ -1,0 +1,4 @@
+mod JournalLemmas
+mod TagsLemmas
+mod CauseLemmas
+mod MarkLemmas

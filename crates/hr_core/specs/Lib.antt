@@ -1,1 +1,4 @@
 pub mod Row
+pub mod Hooks
+pub mod Lanes
+pub mod Tags

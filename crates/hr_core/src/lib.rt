@@ -3,9 +3,12 @@
 #![tactic(auto)]
 
 mod asking;
+mod delivering;
 mod engine;
+mod journal;
 mod made;
 mod passing;
 mod stopping;
+mod tags;
 
 pub use engine::Core;
