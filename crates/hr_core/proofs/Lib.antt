@@ -2,3 +2,5 @@ mod JournalLemmas
 mod TagsLemmas
 mod CauseLemmas
 mod MarkLemmas
+mod DeliverLemmas
+mod EmitLemmas

@@ -3,7 +3,8 @@ use Rattle.std.proofs.Common.{◌≡◌, refl, sym, ap, ◌∙◌, suc, ℕ, ◌
 use Rattle.std.proofs.Math.Seq.{drop-cons}
 use Rattle.std.proofs.lemmas.List.{drop_all}
 use Rattle.std.specs.Option.{option_map}
-use Rattle.std.specs.Prelude.{Option, Some, None, if◌then◌else◌, nat_eq, unwrap_or}
+use Rattle.std.specs.Prelude.{Option, Some, None, Result, Ok, Err, IfOk, if◌then◌else◌, nat_eq, unwrap_or}
+use Rattle.hr_base.specs.declared.memory.Memory.{Memory}
 use Rattle.hr_base.specs.declared.number.RegNo.{RegNo}
 use Rattle.hr_event.specs.declared.told.Told.{Told}
 use Rattle.hr_adapter.specs.Calls.{shown_of}
@@ -44,6 +45,12 @@ pub told_second : (first second : List Link) (reg : RegNo) (told : Option (List 
     → told ≡ told_of second reg → told ≡ told_of (first ++ second) reg
 told_second first second reg told none is =
     is ∙ sym (told_append first second reg ∙ ap (λ (o : Option (List Told)). or_else o (told_of second reg)) (sym none))
+
+pub second_tells : (first second links : List Link) (reg : RegNo) (r : Result (Option (List Told)) Memory) → None ≡ told_of first reg
+    → links ≡ second → IfOk r (λ told. told ≡ told_of links reg) → IfOk r (λ told. told ≡ told_of (first ++ second) reg)
+second_tells first second links reg (Ok told) none same is =
+    told_second first second reg told none (is ∙ ap (λ (l : List Link). told_of l reg) same)
+second_tells first second links reg (Err why) none same is = tt
 
 -- ---- lanes
 

@@ -1,5 +1,5 @@
 -- What the core does with one of its lanes. (Our own.)
-use Rattle.std.specs.Prelude.{◌≡◌, ℕ, List, ◌++◌, slice_get, Some, IsSome}
+use Rattle.std.specs.Prelude.{◌≡◌, ◌≤◌, ℕ, List, ◌++◌, slice_get, Some, None, IsSome}
 use Rattle.hr_base.specs.declared.number.JobNo.{JobNo}
 use Rattle.hr_base.specs.declared.status.Hook.{Hook}
 use Rattle.hr_event.specs.declared.task.TaskSpec.{TaskSpec}
@@ -7,10 +7,10 @@ use Rattle.hr_event.specs.declared.task.Turn.{Turn}
 use Rattle.hr_event.specs.declared.told.Told.{Told}
 use Rattle.hr_board.specs.Plain.{view_of}
 use Rattle.hr_board.specs.View.{View}
-use Rattle.hr_line.specs.State.{State, held_at}
+use Rattle.hr_line.specs.State.{State, held_at, link_at}
 use Rattle.hr_line.specs.declared.answer.Admit.{Admit}
 use Rattle.hr_line.specs.declared.answer.Stepped.{Stepped}
-use Rattle.hr_lane.specs.Admission.{AdmitsWord, by_turn}
+use Rattle.hr_lane.specs.Admission.{AdmitsWord, AreNoted, by_turn}
 use Rattle.hr_lane.specs.Word.{Steps}
 use Rattle.hr_run.specs.Part.{CallsLane}
 use Rattle.hr_run.specs.State.{CoreState}
@@ -47,3 +47,13 @@ pub record StepsAt (s : CoreState) (at : ℕ) (job : JobNo) (came : Stepped) (t 
   pub holds : IsSome (held_at lane.held job.0)
   pub calls : CallsLane s at lane worked t
   pub steps : Steps lane worked job (view_of s.board) (view_of t.board) came
+
+-- a lane may be asked to admit the revision of a turn, with what it copies
+pub record CanTake (lane : State) (board : View) (turn : Turn) (spec : TaskSpec) : Type 0 where
+  pub first : 1 ≤ turn.job.0
+  pub within : turn.job.0 ≤ board.jobs
+  pub rev : turn.rev ≤ 3
+  pub source : IsSome (link_at lane.sources spec.src)
+  pub dest : IsSome (link_at lane.dests spec.dst)
+  pub free : held_at lane.held turn.job.0 ≡ None
+  pub noted : AreNoted lane.admitted board

@@ -6,6 +6,7 @@ mod asking;
 mod delivering;
 mod engine;
 mod journal;
+mod lanes;
 mod made;
 mod passing;
 mod stopping;

@@ -1,6 +1,6 @@
 -- The marks with that one are the same, and there is room for it.
 use Rattle.std.proofs.Common.{◌≡◌, ◌<◌, ◌-◌, suc, length}
-use Rattle.std.specs.Vec.{vec_capacity, vec_len}
+use Rattle.std.specs.Vec.{vec_capacity}
 use Rattle.hr_run.specs.State.{with_mark}
 use Rattle.hr_core.proofs.delivering.mark.Given as goal
 
