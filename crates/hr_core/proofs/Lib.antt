@@ -4,3 +4,5 @@ mod CauseLemmas
 mod MarkLemmas
 mod DeliverLemmas
 mod EmitLemmas
+mod StateLemmas
+mod TurnLemmas

@@ -1,4 +1,5 @@
 -- What the core does with one of its lanes. (Our own.)
+use Rattle.std.specs.List.{Contains}
 use Rattle.std.specs.Prelude.{◌≡◌, ◌≤◌, ℕ, List, ◌++◌, slice_get, Some, None, IsSome}
 use Rattle.hr_base.specs.declared.number.JobNo.{JobNo}
 use Rattle.hr_base.specs.declared.status.Hook.{Hook}
@@ -10,11 +11,14 @@ use Rattle.hr_board.specs.View.{View}
 use Rattle.hr_line.specs.State.{State, held_at, link_at}
 use Rattle.hr_line.specs.declared.answer.Admit.{Admit}
 use Rattle.hr_line.specs.declared.answer.Stepped.{Stepped}
+use Rattle.hr_line.specs.declared.answer.Stepped.TheVariants as stepped
 use Rattle.hr_lane.specs.Admission.{AdmitsWord, AreNoted, by_turn}
 use Rattle.hr_lane.specs.Word.{Steps}
 use Rattle.hr_run.specs.Part.{CallsLane}
 use Rattle.hr_run.specs.State.{CoreState}
-use Rattle.hr_run.specs.Turning.{AdmitTells}
+use Rattle.hr_run.specs.Ready.{IsReady}
+use Rattle.hr_run.specs.Turning.{AdmitTells, NoneHolds, StepsJob}
+use Rattle.hr_session.specs.Answer.{last_done}
 use Rattle.hr_session.specs.Lane.{IsLaneSound}
 
 -- the lane at a place holds a job
@@ -47,6 +51,7 @@ pub record StepsAt (s : CoreState) (at : ℕ) (job : JobNo) (came : Stepped) (t 
   pub holds : IsSome (held_at lane.held job.0)
   pub calls : CallsLane s at lane worked t
   pub steps : Steps lane worked job (view_of s.board) (view_of t.board) came
+  pub tells : came ≡ stepped.Did → IsSome (last_done worked.log)
 
 -- a lane may be asked to admit the revision of a turn, with what it copies
 pub record CanTake (lane : State) (board : View) (turn : Turn) (spec : TaskSpec) : Type 0 where
@@ -57,3 +62,13 @@ pub record CanTake (lane : State) (board : View) (turn : Turn) (spec : TaskSpec)
   pub dest : IsSome (link_at lane.dests spec.dst)
   pub free : held_at lane.held turn.job.0 ≡ None
   pub noted : AreNoted lane.admitted board
+
+-- one step of a job was done
+abbrev pub DidStep : CoreState → JobNo → CoreState → Type 0
+DidStep s job t = (answer : Told) × StepsJob s job answer t
+
+-- a turn is out, no lane holds its job, and the core is ready for its admission
+pub record IsAdmissible (s : CoreState) (turn : Turn) : Type 0 where
+  pub ready : IsReady s
+  pub out : Contains s.turns.out turn
+  pub free : NoneHolds s.lanes turn.job

@@ -11,5 +11,6 @@ mod made;
 mod passing;
 mod stopping;
 mod tags;
+mod turning;
 
 pub use engine::Core;
