@@ -6,3 +6,4 @@ mod DeliverLemmas
 mod EmitLemmas
 mod StateLemmas
 mod TurnLemmas
+mod PlanLemmas

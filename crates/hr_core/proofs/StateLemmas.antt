@@ -60,7 +60,7 @@ spec_within : (made : List TaskSpec) (job : ℕ) (spec : TaskSpec) → spec_of m
 spec_within made zero spec e = absurd (cc)
 spec_within made (suc at) spec e = (omega arith, (let w = get_within made at spec e in omega (arith, w)))
 
-jobs_fit : (s : CoreState) → IsReady s → length s.made ≤ (view_of s.board).jobs
+pub jobs_fit : (s : CoreState) → IsReady s → length s.made ≤ (view_of s.board).jobs
 jobs_fit s ready =
     let n = ready.holds.numbered in
     let w = ready.within in

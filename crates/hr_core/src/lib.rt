@@ -11,6 +11,7 @@ mod made;
 mod passing;
 mod stopping;
 mod tags;
+mod triggering;
 mod turning;
 
 pub use engine::Core;

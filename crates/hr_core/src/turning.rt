@@ -134,7 +134,7 @@ impl<A: Registry> Core<A> {
         let Some(turn) = self.turns.out_of(job) else {
             return Told::NotOut { job };
         };
-        if find_lane(&self.lanes, job).is_some() {
+        if let Some(_) = find_lane(&self.lanes, job) {
             return Told::InLane { job };
         }
         let came = self.turns.settle(&mut self.board, turn, self.moment);
