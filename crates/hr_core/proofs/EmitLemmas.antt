@@ -1,10 +1,9 @@
 -- Which hooks a lane gives: one at the end of a revision.
-use Rattle.std.proofs.Common.{◌≡◌, refl, sym, ap, ◌∙◌, ℕ, ◌+◌, ◌≤◌, List, [], ◌∷◌, ◌++◌, length, inl, inr, reverse, arith}
+use Rattle.std.proofs.Common.{◌≡◌, refl, sym, ap, ◌∙◌, ◌+◌, ◌≤◌, List, [], ◌∷◌, ◌++◌, length, inl, inr, reverse, arith}
 use Rattle.std.proofs.lemmas.List.{length-reverse}
-use Rattle.std.specs.Prelude.{Option, Some, None, Ok, Err, slice_get}
+use Rattle.std.specs.Prelude.{Option, Some, None, Ok, slice_get}
 use Rattle.hr_base.specs.declared.number.JobNo.{JobNo}
 use Rattle.hr_base.specs.declared.status.Hook.{Hook}
-use Rattle.hr_base.specs.declared.status.Mark.{Mark}
 use Rattle.hr_base.specs.declared.status.Status.{Status}
 use Rattle.hr_event.specs.declared.cause.Cause.{Cause}
 use Rattle.hr_board.specs.View.{View}

@@ -1,8 +1,8 @@
 -- What a trigger does, by what its calls did.
-use Rattle.std.proofs.Common.{◌≡◌, ◌⊎◌, inl, inr, refl, sym, ap, subst, ◌∙◌, zero, suc, ℕ, ◌+◌, ◌-◌, ◌<◌, ◌≤◌, Bool, true, false, cond, List, [], ◌∷◌, ◌++◌, length, get_or, take, arith}
+use Rattle.std.proofs.Common.{◌≡◌, inl, inr, refl, sym, ap, subst, ◌∙◌, zero, suc, ℕ, ◌+◌, ◌<◌, ◌≤◌, Bool, true, false, cond, List, [], ◌∷◌, ◌++◌, length, get_or, take, arith}
 use Rattle.std.proofs.lemmas.Bool.Decides.{eqb_tells, nat_tests}
 use Rattle.std.proofs.lemmas.List.Sums.{sum_by-cons}
-use Rattle.std.specs.List.{AllByRecursion, sum_by}
+use Rattle.std.specs.List.{AllByRecursion}
 use Rattle.std.specs.Prelude.{Option, Some, None, Result, Ok, Err, IfOk, OnErr, IfSome, nat_eq, nat_le, nat_lt, ◌&&◌}
 use Rattle.hr_base.specs.declared.memory.Memory.{Memory}
 use Rattle.hr_base.specs.declared.number.ExecNo.{ExecNo}
@@ -23,17 +23,16 @@ use Rattle.hr_run.specs.Holds.{HasAttempts}
 use Rattle.hr_run.specs.Ready.{IsReady}
 use Rattle.hr_run.specs.Sound.{IsSound}
 use Rattle.hr_run.specs.State.{CoreState, queued_from}
-use Rattle.hr_run.specs.Triggering.{Creates, FailsToPlan, IsFull, Reserves, Triggers, moment_of, tasks_of}
+use Rattle.hr_run.specs.Triggering.{Creates, FailsToPlan, IsFull, Triggers, moment_of, tasks_of}
 use Rattle.hr_run.specs.Triggering.Triggers.{creates, fails, is_full}
 use Rattle.hr_core.specs.Planning.{FailsAsPlanned, RunsPlan, TriggerCut}
-use Rattle.hr_core.proofs.StateLemmas.{jobs_fit}
 
 abbrev one : PolicyNo
 one = record { 0 = 1 }
 
 -- ---- jobs of tasks
 
-abbrev Q : ℕ → ℕ → Queued
+abbrev pub Q : ℕ → ℕ → Queued
 Q job attempts = record { job = record { 0 = job }; attempts = attempts }
 
 pub queued_take : (n at : ℕ) (tasks : List TaskSpec) (task : TaskSpec) → at < length tasks → task ≡ get_or tasks at task
@@ -63,13 +62,16 @@ fits_from jobs n [] less few = tt
 fits_from jobs n (spec ∷ specs) less few =
     ((omega arith, omega (arith, less), few.0.0, few.0.1), fits_from jobs (suc n) specs (omega (arith, less)) few.1)
 
-abbrev weight : ℕ → Queued → ℕ
-weight job a = cond (nat_eq a.job.0 job) 1 0
+abbrev one_if : Bool → ℕ
+one_if b = cond b 1 0
 
-weight_other : (n job : ℕ) → job < n → cond (nat_eq n job) 1 0 ≡ 0
+abbrev weight : ℕ → Queued → ℕ
+weight job a = one_if (nat_eq a.job.0 job)
+
+weight_other : (n job : ℕ) → job < n → one_if (nat_eq n job) ≡ 0
 weight_other n job less = grind (arith, nat_tests)
 
-weight_few : (b : Bool) → cond b 1 0 ≤ 1
+weight_few : (b : Bool) → one_if b ≤ 1
 weight_few true = omega arith
 weight_few false = omega arith
 
@@ -86,11 +88,11 @@ queued_once n [] job = omega arith
 queued_once n (x ∷ specs) job =
     let more = sum_by-cons (weight job) (Q (suc n) x.attempts) (queued_from (suc n) specs) in
     elim (eqb_tells (suc n) job) [
-      | inl yes ↦ (let same : suc n ≡ job = yes.1 in
+      | inl is ↦ (let same : suc n ≡ job = is.1 in
           let rest = queued_none (suc n) specs job (omega (arith, same)) in
           let few = weight_few (nat_eq (suc n) job) in
           omega (arith, more, rest, few))
-      | inr no ↦ (let none : cond (nat_eq (suc n) job) 1 0 ≡ 0 = ap (λ (b : Bool). cond b 1 0) no.0 in
+      | inr other ↦ (let none : one_if (nat_eq (suc n) job) ≡ 0 = ap one_if other.0 in
           let rest = queued_once (suc n) specs job in
           omega (arith, more, rest, none))
     ]

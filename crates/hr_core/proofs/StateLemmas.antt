@@ -1,7 +1,6 @@
 -- Jobs, turns and lanes of a core that is ready for its calls.
-use Rattle.std.proofs.Common.{◌≡◌, ◌⊎◌, inl, inr, refl, sym, ap, subst, ◌∙◌, zero, suc, ℕ, ◌+◌, ◌<◌, ◌≤◌, Bool, true, false, cond, List, [], ◌∷◌, ◌++◌, length, get_or, set, eq-eqb, arith}
-use Rattle.std.proofs.lemmas.Bool.Decides.{eqb_tells}
-use Rattle.std.proofs.lemmas.List.Sums.{get_or-le-sum_by, sum_by-insert, sum_by-cons}
+use Rattle.std.proofs.Common.{◌≡◌, inl, inr, refl, sym, ap, subst, ◌∙◌, zero, suc, ℕ, ◌+◌, ◌<◌, ◌≤◌, Bool, cond, List, [], ◌∷◌, length, eq-eqb, arith}
+use Rattle.std.proofs.lemmas.List.Sums.{sum_by-insert, sum_by-cons}
 use Rattle.std.specs.List.{AllByRecursion, Contains, insert, sum_by}
 use Rattle.std.specs.Prelude.{Option, Some, None, IfSome, IsSome, nat_eq, slice_get}
 use Rattle.hr_base.specs.declared.number.JobNo.{JobNo}
@@ -19,7 +18,7 @@ use Rattle.hr_queue.specs.View as queue
 use Rattle.hr_queue.specs.View.{times_added, times_delayed, times_done, times_in}
 use Rattle.hr_queue.specs.Whole.{IsAdded, IsTurn, IsWhole}
 use Rattle.hr_run.specs.Holds.{HoldsOut, IsServing, IsTurnOut}
-use Rattle.hr_run.specs.Ready.{CanRun, IsOnBoard, IsReady, IsTurnOnBoard}
+use Rattle.hr_run.specs.Ready.{CanRun, IsReady, IsTurnOnBoard}
 use Rattle.hr_run.specs.Run.{Cut}
 use Rattle.hr_run.specs.Run.Cut.{taken_out}
 use Rattle.hr_event.specs.declared.event.Event.{Event}

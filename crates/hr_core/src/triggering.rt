@@ -59,21 +59,21 @@ impl<A: Registry> Core<A> {
         ensures err { OnErr result (TriggerCut self.old self.new) }
     {
         let jobs = self.store.limit();
-        if specs.view().len() > (jobs - self.made.count()) as usize {
+        let before = self.made.count();
+        let count = specs.view().len();
+        if count > (jobs - before) as usize {
             return Ok(Told::Full { jobs });
         }
-        let queued = queue_tasks(alloc, self.made.count(), specs.view())?;
-        self.turns.reserve(queued.len() as u32)?;
+        let queued = queue_tasks(alloc, before, specs.view())?;
+        let tasks = count as u32;
+        self.turns.reserve(tasks)?;
         self.is_sound();
         let made = self.made.with(specs.view());
         match self.store.create(alloc, PolicyNo(1), Trigger::Manual, specs, self.moment) {
             Ok(exec) => {
                 self.turns.add(&mut self.board, &queued);
                 self.made = made;
-                Ok(Told::Created {
-                    exec,
-                    tasks: queued.len() as u32,
-                })
+                Ok(Told::Created { exec, tasks })
             }
             Err(CreateRefused::Full { jobs }) => Ok(Told::Full { jobs }),
             Err(CreateRefused::Memory) => Err(Memory),

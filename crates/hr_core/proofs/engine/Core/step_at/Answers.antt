@@ -1,10 +1,9 @@
-use Rattle.std.proofs.Common.{◌≡◌, ◌∙◌, ap, subst, sym, ◌≤◌, ◌<◌, length}
-use Rattle.std.proofs.lemmas.Option.{slice_get-get_or}
+use Rattle.std.proofs.Common.{◌≡◌, ◌∙◌, ap, subst, sym, ◌≤◌}
 use Rattle.std.specs.Prelude.{Some, IsSome, slice_get}
 use Rattle.hr_board.specs.Plain.{view_of}
 use Rattle.hr_line.specs.State.{State, held_at}
 use Rattle.hr_run.specs.State.{CoreState}
-use Rattle.hr_core.proofs.StateLemmas.{get_within, held_on_board}
+use Rattle.hr_core.proofs.StateLemmas.{held_on_board}
 use Rattle.hr_core.proofs.TurnLemmas.{at_is, did_told, steps_made}
 use Rattle.hr_core.proofs.engine.Core.step_at.Goals as goal
 
