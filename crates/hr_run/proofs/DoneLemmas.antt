@@ -94,13 +94,13 @@ heavy : (v p place w : ℕ) → 1 ≤ cond (nat_le 4 v) (one_if (nat_eq p place 
 heavy v p place w h = (grind (arith, nat_tests), grind (arith, nat_tests))
 
 -- a final word has an emitted hook
-record HasHook (s : CoreState) (place : ℕ) : Type 0 where
-  hook : Hook
-  there : Contains s.hooks hook
-  at_place : hook_place hook ≡ place
-  at_word : status_word hook.status ≡ word_at s.board place
+pub record HasHook (s : CoreState) (place : ℕ) : Type 0 where
+  pub hook : Hook
+  pub there : Contains s.hooks hook
+  pub at_place : hook_place hook ≡ place
+  pub at_word : status_word hook.status ≡ word_at s.board place
 
-final_hook : (s : CoreState) → Holds s → (place : ℕ) → 4 ≤ word_at s.board place → HasHook s place
+pub final_hook : (s : CoreState) → Holds s → (place : ℕ) → 4 ≤ word_at s.board place → HasHook s place
 final_hook s o place f =
     let w = word_at s.board place in
     let a = (one_each s o).told place f in
@@ -150,7 +150,7 @@ open_revision s o place n = elim (cases_lt (word_at s.board place) 4) [
 ]
 
 -- a place is of one job and revision
-same_place : (job rev j r : ℕ) → 1 ≤ job → 1 ≤ j → rev < 4 → r < 4 → place_of job rev ≡ place_of j r → (job ≡ j) × (rev ≡ r)
+pub same_place : (job rev j r : ℕ) → 1 ≤ job → 1 ≤ j → rev < 4 → r < 4 → place_of job rev ≡ place_of j r → (job ≡ j) × (rev ≡ r)
 same_place job rev j r a b c d e = (omega arith, omega arith)
 
 same_spec : (made : List TaskSpec) (job j : ℕ) (x y : TaskSpec) → spec_of made job ≡ Some x → spec_of made j ≡ Some y → job ≡ j
@@ -178,18 +178,18 @@ unopened s o job rev spec e small big = elim (cases_lt 0 (word_at s.board (place
 -- ---- a job that is over
 
 -- it is over at this row: its last opened revision, below its attempts, with a final status
-record IsOverAt (s : CoreState) (job : ℕ) (row : ℕ × Status) : Type 0 where
-  word : word_at s.board (place_of job row.0) ≡ status_word row.1
-  final : 4 ≤ status_word row.1
-  within : row.0 < 4
-  beyond : (r : ℕ) → row.0 < r → r < 4 → word_at s.board (place_of job r) ≡ 0
+pub record IsOverAt (s : CoreState) (job : ℕ) (row : ℕ × Status) : Type 0 where
+  pub word : word_at s.board (place_of job row.0) ≡ status_word row.1
+  pub final : 4 ≤ status_word row.1
+  pub within : row.0 < 4
+  pub beyond : (r : ℕ) → row.0 < r → r < 4 → word_at s.board (place_of job r) ≡ 0
 
 pub ends_final : (attempts : ℕ) (row : ℕ × Status) → EndsJob attempts row → 4 ≤ status_word row.1
 ends_final attempts row (inl e) = subst (λ (x : Status). 4 ≤ status_word x) (sym e) (omega arith)
 ends_final attempts row (inr (inl e)) = subst (λ (x : Status). 4 ≤ status_word x) (sym e) (omega arith)
 ends_final attempts row (inr (inr e)) = subst (λ (x : Status). 4 ≤ status_word x) (sym e.0) (omega arith)
 
-over_at : (s : CoreState) → Holds s → (job : ℕ) (spec : TaskSpec) → spec_of s.made job ≡ Some spec
+pub over_at : (s : CoreState) → Holds s → (job : ℕ) (spec : TaskSpec) → spec_of s.made job ≡ Some spec
     → (row : ℕ × Status) → IsCurrent s.board.words job spec.attempts row → EndsJob spec.attempts row → IsOverAt s job row
 over_at s o job spec e row (inl c) ends =
     let few = few_each s.made job spec o.few e in

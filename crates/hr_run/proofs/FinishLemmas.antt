@@ -148,7 +148,7 @@ mark_stays (mark ∷ marks) zero (suc at) e = e
 mark_stays (mark ∷ marks) (suc place) zero e = e
 mark_stays (mark ∷ marks) (suc place) (suc at) e = mark_stays marks place at e
 
-delivered_stays : (marks : List Bool) (place k : ℕ) → was_delivered marks k ≡ true → was_delivered (with_mark marks place) k ≡ true
+pub delivered_stays : (marks : List Bool) (place k : ℕ) → was_delivered marks k ≡ true → was_delivered (with_mark marks place) k ≡ true
 delivered_stays marks place zero e = e
 delivered_stays marks place (suc at) e = mark_stays marks place at e
 

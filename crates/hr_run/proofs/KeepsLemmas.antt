@@ -202,8 +202,8 @@ module _ (laws : OtherLaws) (s t : CoreState) (o : Holds s) where
         lanes = subst L (sym h.calls.lanes)
             (all_set (IsServing s.made (view_of t.board)) s.lanes h.at h.worked (lanes_still s t o kept) w.serving);
         held = subst H (sym h.calls.lanes) (all_set (HoldsOut s.turns.out) s.lanes h.at h.worked o.held
-          (held_so s.made s.turns.out h.lane h.worked (view_of s.board) (view_of t.board) h.does
-          (all_at (HoldsOut s.turns.out) s.lanes h.at h.lane o.held h.calls.there)));
+            (held_so s.made s.turns.out h.lane h.worked (view_of s.board) (view_of t.board) h.does
+            (all_at (HoldsOut s.turns.out) s.lanes h.at h.lane o.held h.calls.there)));
         shares = λ g.
             let a = more g in
             let b = more (stop_weight g) in

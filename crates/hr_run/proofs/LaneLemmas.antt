@@ -125,7 +125,7 @@ module _ (b c : Plain) (lawful : IsLawful c.words c.past) where
 pub noted_on : (all : List Admitted) (v w : View) → Keeps v w → AreNoted all v → AreNoted all w
 noted_on all v w kept noted job rev there = noted_more v w kept (place_of job rev) (word_of (At Running)) (noted job rev there)
 
-both_true : (b c : Bool) → (b && c) ≡ true → (b ≡ true) × (c ≡ true)
+pub both_true : (b c : Bool) → (b && c) ≡ true → (b ≡ true) × (c ≡ true)
 both_true true true is = (refl, refl)
 both_true true false is = cc
 both_true false c is = cc
@@ -151,7 +151,7 @@ admitted_in : (P : Admitted → Type 0) (x a : Admitted) (rest : Option Admitted
 admitted_in P x a rest true first later e = let same : x ≡ a = cc in subst P same first
 admitted_in P x a rest false first later e = later e
 
-admitted_has : (P : Admitted → Type 0) (all : List Admitted) (job rev : ℕ) (a : Admitted) → AllByRecursion P all
+pub admitted_has : (P : Admitted → Type 0) (all : List Admitted) (job rev : ℕ) (a : Admitted) → AllByRecursion P all
     → admitted_at all job rev ≡ Some a → P a
 admitted_has P [] job rev a each is = absurd (cc)
 admitted_has P (x ∷ all) job rev a each is =
@@ -168,10 +168,10 @@ pub record Worked (made : List TaskSpec) (b c : Plain) (worked : State) (more : 
   pub serving : IsServing made (view_of c) worked
 
 -- no hook was given
-none_given : (lane worked : State) (more : List Hook) → worked.hooks ≡ lane.hooks → worked.hooks ≡ more ++ lane.hooks → more ≡ []
+pub none_given : (lane worked : State) (more : List Hook) → worked.hooks ≡ lane.hooks → worked.hooks ≡ more ++ lane.hooks → more ≡ []
 none_given lane worked more same gave = append_cancel_right more [] lane.hooks (sym gave ∙ same)
 
-one_given : (lane worked : State) (hook : Hook) (more : List Hook) → worked.hooks ≡ hook ∷ lane.hooks
+pub one_given : (lane worked : State) (hook : Hook) (more : List Hook) → worked.hooks ≡ hook ∷ lane.hooks
     → worked.hooks ≡ more ++ lane.hooks → more ≡ hook ∷ []
 one_given lane worked hook more is gave = append_cancel_right more (hook ∷ []) lane.hooks (sym gave ∙ is)
 

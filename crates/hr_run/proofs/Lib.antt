@@ -15,3 +15,11 @@ mod TellLemmas
 mod AnswerLemmas
 mod MoveLemmas
 mod ReadyLemmas
+mod SourceLemmas
+mod CopiedLemmas
+mod WellLemmas
+mod EndedLemmas
+mod SuccessLemmas
+mod ArriveLemmas
+mod TextLemmas
+mod CallLemmas

@@ -29,7 +29,7 @@ row_heard job execs row e = ap (option_map (λ (r : RowState). r.received)) e
 
 -- ---- one execution more
 
-first_cases : (a b : Option RowState) (row : RowState) → first_row a b ≡ Some row → (a ≡ Some row) ⊎ ((a ≡ None) × (b ≡ Some row))
+pub first_cases : (a b : Option RowState) (row : RowState) → first_row a b ≡ Some row → (a ≡ Some row) ⊎ ((a ≡ None) × (b ≡ Some row))
 first_cases (Some x) b row e = inl e
 first_cases None b row e = inr (refl, e)
 

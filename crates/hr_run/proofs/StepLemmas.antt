@@ -165,8 +165,8 @@ turn_less out i gone lane gone_job there of_job has free job = by (held_at lane.
     by (Some h) e is = record {
       turn = is.turn;
       there = removed_keeps out i gone is.turn there is.there (λ same.
-        (let j : gone_job ≡ job = sym of_job ∙ ap (λ (t : Turn). t.job.0) same ∙ is.of_job in
-        let k = sym free ∙ ap (held_at lane.held) j ∙ e in cc));
+          (let j : gone_job ≡ job = sym of_job ∙ ap (λ (t : Turn). t.job.0) same ∙ is.of_job in
+          let k = sym free ∙ ap (held_at lane.held) j ∙ e in cc));
       of_job = is.of_job;
       of_rev = is.of_rev;
     }

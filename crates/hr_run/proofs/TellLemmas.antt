@@ -68,11 +68,11 @@ Says = (attempts rev : ℕ) (st : Status) → IsTrue (ends_job attempts rev st) 
 abbrev pub KeepsRows : Type 0
 KeepsRows = (keep job : ℕ) (execs : List ExecState) → AreOrdered 0 0 execs → AllByRecursion FailsBare execs → RowStays keep job execs
 
-record IsTold (s : CoreState) (job : ℕ) (row : ℕ × Status) : Type 0 where
-  small : row.0 ≤ 3
-  word : word_at s.board (place_of job row.0) ≡ status_word row.1
+pub record IsTold (s : CoreState) (job : ℕ) (row : ℕ × Status) : Type 0 where
+  pub small : row.0 ≤ 3
+  pub word : word_at s.board (place_of job row.0) ≡ status_word row.1
 
-row_told : (s : CoreState) → Holds s → (job : ℕ) (row : RowState) → row_of_job job s.store.kept ≡ Some row
+pub row_told : (s : CoreState) → Holds s → (job : ℕ) (row : RowState) → row_of_job job s.store.kept ≡ Some row
     → 4 ≤ status_word (joined row.received).1 → IsTold s job (joined row.received)
 row_told s o job row e f =
     let h = final_join row.received f in

@@ -91,8 +91,8 @@ Arrives t = AllArrived t ⊎ WantedMemory t.lanes
 
 -- ---- what was copied
 
--- a lane admitted a revision of a job with this task, and each tag of it was put, names the manifest
--- already, or names another one that is kept
+-- a lane admitted a revision of a job with this task, and each tag of it was put, names the
+-- manifest already, or names another one that is kept
 pub record IsTaskCopied (s : CoreState) (job : ℕ) (spec : TaskSpec) : Type 0 where
   pub lane : State
   pub there : Contains s.lanes lane

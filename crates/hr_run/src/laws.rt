@@ -1,10 +1,11 @@
 //! Laws of the core: what its events are made of, what their parts keep, and what follows from it
 //! at every moment. (Our own.)
-ghost use Rattle.std.specs.Prelude.{◌≡◌, ◌≤◌, ℕ, List, Option, Some, None, IfSome, length};
+ghost use Rattle.std.specs.Prelude.{◌≡◌, ℕ, List, Option, Some, None, IfSome};
 ghost use Rattle.std.specs.List.{AllByRecursion};
 ghost use Rattle.hr_event.specs.declared.event.Event.{Event};
 ghost use Rattle.hr_event.specs.declared.task.TaskSpec.{TaskSpec};
 ghost use Rattle.hr_event.specs.declared.told.Told.{Told};
+ghost use Rattle.hr_print.specs.Text.{HasText};
 ghost use Rattle.hr_board.specs.Over.{IsOver};
 ghost use Rattle.hr_board.specs.Plain.{IsLawful, new_board};
 ghost use Rattle.hr_line.specs.Run.{IsOpening};
@@ -18,7 +19,6 @@ ghost use Rattle.hr_run.specs.Delivering.{Sweeps};
 ghost use Rattle.hr_run.specs.Finish.{Finishes};
 ghost use Rattle.hr_run.specs.Holds.{HasAttempts, Holds};
 ghost use Rattle.hr_run.specs.Part.{Part, Parts};
-ghost use Rattle.hr_run.specs.Ready.{CanRun, IsReady};
 ghost use Rattle.hr_run.specs.Run.{Cut, Does, Runs};
 ghost use Rattle.hr_run.specs.Sound.{IsSound};
 ghost use Rattle.hr_run.specs.State.{CoreState, opening};
@@ -34,6 +34,7 @@ use hr_queue::{
     a_queue_agrees_with_its_board, a_turn_taken_back_is_out_no_more, done_jobs_were_over,
     gains_add_up, what_calls_gain,
 };
+use hr_session::steps_come_to_an_end;
 use hr_store::{
     a_taken_hook_is_put, hooks_reach_one_row, is_among_says_contains, row_ends_its_job,
     sweep_drops_rows_that_are_over,
@@ -194,20 +195,10 @@ pub fn answers_tell_words()
     rows_tell_words();
 }
 
-/// A law: what the calls of the core ask of it holds as it opens with a lane that has the
-/// connections of each planned task, and stays with each event, also with one that was cut short.
-pub fn core_stays_ready()
-    ensures opens { (lanes : List State) (others : List Link) (plan : Option (List TaskSpec))
-        (jobs : ℕ) → AllByRecursion IsOpening lanes → IfSome plan (AllByRecursion HasAttempts)
-        → IsSound (opening lanes others plan jobs) → 1 ≤ length lanes
-        → IfSome plan (AllByRecursion (CanRun lanes)) → IsReady (opening lanes others plan jobs) }
-    ensures does { (s t : CoreState) (event : Event) (answers : List Told)
-        → IsReady s → IsSound s → IsSound t → Does s event answers t → IsReady t }
-    ensures cut { (s t : CoreState) (event : Event)
-        → IsReady s → IsSound s → IsSound t → Cut s event t → IsReady t }
-    ensures runs { (s t : CoreState) (events : List Event) (said : List Told)
-        → IsReady s → IsSound s → Runs s events said t → IsReady t }
+/// A law: each answer to an event has a text.
+pub fn answers_have_texts()
+    ensures { (s t : CoreState) (event : Event) (answers : List Told)
+        → Does s event answers t → AllByRecursion HasText answers }
 {
-    parts_keep();
-    events_are_parts();
+    steps_come_to_an_end();
 }

@@ -2,7 +2,7 @@ use Rattle.std.proofs.Common.{arith}
 use Rattle.hr_run.specs.State.{opening}
 use Rattle.hr_run.proofs.MoveLemmas.{keep_cut, keep_does, keep_runs}
 use Rattle.hr_run.proofs.ReadyLemmas.{Asked, asked_each, asked_of, ready_by}
-use Rattle.hr_run.proofs.laws.core_stays_ready.Goals as goal
+use Rattle.hr_run.proofs.readiness.core_stays_ready.Goals as goal
 
 pub returns-clause-opens : goal.returns-clause-opens
 returns-clause-opens c lanes others plan jobs new planned sound some can =
