@@ -7,3 +7,5 @@ mod EmitLemmas
 mod StateLemmas
 mod TurnLemmas
 mod PlanLemmas
+mod RoundLemmas
+mod EventLemmas

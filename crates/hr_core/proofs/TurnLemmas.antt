@@ -237,11 +237,11 @@ did_told law lane worked job v w (stepped.Ended status) does is = absurd (cc)
 
 -- ---- giving back a turn
 
-there_at : (ts : List Turn) (i : ℕ) (t : Turn) → slice_get ts i ≡ Some t → Contains ts t
-there_at [] zero t e = absurd (cc)
-there_at [] (suc i) t e = absurd (cc)
-there_at (u ∷ us) zero t e = (0, omega arith, (let s : u ≡ t = cc in s))
-there_at (u ∷ us) (suc i) t e = let c = there_at us i t e in let l = c.1 in (suc c.0, omega (arith, l), c.2)
+pub out_contains : (ts : List Turn) (i : ℕ) (t : Turn) → slice_get ts i ≡ Some t → Contains ts t
+out_contains [] zero t e = absurd (cc)
+out_contains [] (suc i) t e = absurd (cc)
+out_contains (u ∷ us) zero t e = (0, omega arith, (let s : u ≡ t = cc in s))
+out_contains (u ∷ us) (suc i) t e = let c = out_contains us i t e in let l = c.1 in (suc c.0, omega (arith, l), c.2)
 
 lane_there : (ls : List State) (i : ℕ) (l : State) → slice_get ls i ≡ Some l → Contains ls l
 lane_there [] zero l e = absurd (cc)
@@ -252,7 +252,7 @@ lane_there (u ∷ us) (suc i) l e = let c = lane_there us i l e in let w = c.1 i
 pub out_fits : (before now : CoreState) (turn : Turn) → before ≡ now → IsReady now → IsOut before.turns.out turn turn
     → turn.job.0 ≤ (view_of before.board).jobs
 out_fits before now turn same ready out =
-    (out_on_board before turn (subst IsReady (sym same) ready) (there_at before.turns.out (rank turn.job.0 before.turns.out) turn out.there)).job.within
+    (out_on_board before turn (subst IsReady (sym same) ready) (out_contains before.turns.out (rank turn.job.0 before.turns.out) turn out.there)).job.within
 
 pub settle_none : (before now : CoreState) (job : JobNo) → before ≡ now → NoneOut before.turns.out job
     → SettlesOut now job (told.NotOut job) now ⊎ (FindsNotOut now job (told.NotOut job) now ⊎ FindsHeld now job (told.NotOut job) now)

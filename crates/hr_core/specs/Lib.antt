@@ -3,3 +3,5 @@ pub mod Hooks
 pub mod Lanes
 pub mod Tags
 pub mod Planning
+pub mod Rounds
+pub mod Comes

@@ -5,10 +5,13 @@
 mod asking;
 mod delivering;
 mod engine;
+mod event;
+mod finishing;
 mod journal;
 mod lanes;
 mod made;
 mod passing;
+mod rounds;
 mod stopping;
 mod tags;
 mod triggering;
