@@ -1,6 +1,7 @@
 -- What comes of an event, by what its call did.
 use Rattle.std.proofs.Common.{◌≡◌, ◌⊎◌, inl, inr, refl, sym, ap, subst, ◌∙◌, List, [], ◌∷◌}
 use Rattle.std.specs.Prelude.{Result, Ok, Err, IfOk}
+use Rattle.std.specs.Result.{IsErr}
 use Rattle.hr_base.specs.declared.memory.Memory.{Memory}
 use Rattle.hr_base.specs.declared.number.JobNo.{JobNo}
 use Rattle.hr_base.specs.declared.number.PolicyNo.{PolicyNo}
@@ -40,7 +41,7 @@ does_of s t (event.CauseOf job) answers h = h
 pub comes_one : (s t : CoreState) (e : Event) (answer : Told) (r : Result (List Told) Memory) → DoesOne s e (answer ∷ []) t
     → IfOk r (λ answers. answers ≡ answer ∷ []) → Comes s e r t
 comes_one s t e answer (Ok answers) h is =
-    does_of s t e answers (subst (λ (as : List Told). DoesOne s e as t) (sym is) h)
+    does_of s t e answers (subst (λ (all : List Told). DoesOne s e all t) (sym is) h)
 comes_one s t e answer (Err why) h is = Cut.behind s t e (answer ∷ []) h
 
 pub comes_finished : (s t : CoreState) (r : Result (List Told) Memory) → Finishes s t
@@ -69,3 +70,11 @@ pub comes_tags : (s : CoreState) (reg : RegNo) (r : Result (List Told) Memory) �
     → Comes s (event.Tags reg) r s
 comes_tags s reg (Ok answers) is = (refl, is)
 comes_tags s reg (Err why) is = Cut.before s (event.Tags reg)
+
+-- of the event that came
+pub comes_as : (s t : CoreState) (e f : Event) (r : Result (List Told) Memory) → e ≡ f → Comes s f r t → Comes s e r t
+comes_as s t e f r is comes = subst (λ (x : Event). Comes s x r t) (sym is) comes
+
+pub comes_cut : (s t : CoreState) (e f : Event) (r : Result (List Told) Memory) → e ≡ f → IsErr r → Cut s f t → Comes s e r t
+comes_cut s t e f (Ok answers) is err cut = absurd (cc)
+comes_cut s t e f (Err why) is err cut = subst (λ (x : Event). Cut s x t) (sym is) cut

@@ -311,3 +311,26 @@ delivers_cut o s t place some same = subst (λ (x : CoreState). DeliversSome 0 o
 pub delivers_all : (o s : CoreState) (place : ℕ) → ((u : CoreState) → DeliversFrom place s u → DeliversFrom 0 o u)
     → length s.hooks ≤ place → DeliversFrom 0 o s
 delivers_all o s place from past = from s (DeliversFrom.all place s past)
+
+-- ---- answers
+
+pub on_err : {X : Type 0} (r : Result X Memory) (P : Type 0) → P → OnErr r P
+on_err (Ok x) P p = tt
+on_err (Err why) P p = p
+
+-- no round was left
+pub idle_of : (s m : CoreState) (more : Bool) → more ≡ false → RoundCame s more m → (m ≡ s) × GoesOut s taken.Idle s
+idle_of s m true is came = absurd (cc)
+idle_of s m false is came = came
+
+pub round_of : (s m : CoreState) (more : Bool) → more ≡ true → RoundCame s more m → RunsRound s m
+round_of s m false is came = absurd (cc)
+round_of s m true is came = came
+
+-- what a loop of deliveries keeps
+pub record Delivering (o s : CoreState) (place : ℕ) : Type 0 where
+  pub from : (t : CoreState) → DeliversFrom place s t → DeliversFrom 0 o t
+  pub some : (t : CoreState) → DeliversSome place s t → DeliversSome 0 o t
+  pub ready : IsReady s
+  pub sound : IsSound s
+  pub hooks : s.hooks ≡ o.hooks

@@ -25,7 +25,8 @@ impl<A: Registry> Core<A> {
         ensures ok { IfOk result (λ more. RoundCame self.old more self.new) }
         ensures err { OnErr result (RoundCut self.old self.new) }
     {
-        match self.begin(alloc)? {
+        let came = self.begin(alloc)?;
+        match came {
             Taken::Turn(turn) => self.end_turn(turn),
             Taken::Busy { out: _ } => self.end_least(),
             Taken::Later { due } => {
