@@ -108,6 +108,7 @@ module _ (lane_laws : LaneLaws) (laws : OtherLaws) (calls : CallLaws) where
   cut_parts s t _ o before sound (Cut.reserved _ _ policy h) = one_part s t (reserve_part lane_laws laws calls s t sound h)
   cut_parts s t _ o before sound (Cut.taken_out _ _ h) = take_cut s t sound h
   cut_parts s t _ o before sound (Cut.finished _ _ h) = finish_parts s t o h
+  cut_parts s t _ o before sound (Cut.rounded _ _ rounds) = rounds_parts s t o rounds
   cut_parts s t _ o before sound (Cut.taking _ m _ rounds mid h) =
       after_parts s m t (rounds_parts s m o rounds) (take_cut m t sound h)
   cut_parts s t _ o before sound (Cut.turning _ m u _ answer takes rounds mid after h) =

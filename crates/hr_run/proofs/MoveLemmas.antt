@@ -321,6 +321,7 @@ module _ (P : CoreState → Type 0) (each : (stops : Bool) (s t : CoreState) →
   keep_cut s t _ (Cut.reserved _ _ policy h) p = keep false s t (reserves false s t h.after) p
   keep_cut s t _ (Cut.taken_out _ _ (turn, h)) p = keep false s t (goes_out false s t (taken.Turn turn) h) p
   keep_cut s t _ (Cut.finished _ _ h) p = keep false s t (finishes false s t h) p
+  keep_cut s t _ (Cut.rounded _ _ ran) p = keep false s t (rounds false s t ran) p
   keep_cut s t _ (Cut.taking _ m _ ran sound (turn, h)) p =
       keep false m t (goes_out false m t (taken.Turn turn) h) (keep false s m (rounds false s m ran) p)
   keep_cut s t _ (Cut.turning _ m u _ answer takes ran sound after h) p =

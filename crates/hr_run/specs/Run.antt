@@ -49,6 +49,7 @@ pub data Cut : CoreState → Event → CoreState → Type 0 where
   reserved : (s t : CoreState) (policy : PolicyNo) → Reserves s t → Cut s (event.Trigger policy) t
   taken_out : (s t : CoreState) → TakeCut s t → Cut s event.Take t
   finished : (s t : CoreState) → Finishes s t → Cut s event.Finish t
+  rounded : (s t : CoreState) → RunsRounds s t → Cut s event.Finish t
   taking : (s m t : CoreState) → RunsRounds s m → IsSound m → TakeCut m t → Cut s event.Finish t
   turning : (s m u t : CoreState) (answer : Told) (takes : TakesTurn m answer u) → RunsRounds s m
       → IsSound m → IsSound u → StepsSome takes.turn.job u t → Cut s event.Finish t
