@@ -24,9 +24,10 @@ come_hooks h s t (Some why) (inr rests) = rests.1.hooks
 -- the one hook of the end of a revision
 ended_hooks : (s t : State) (job : JobNo) (status : Status) → Ends s t job (Ok status)
     → (hook : Hook) × (t.hooks ≡ hook ∷ s.hooks)
-ended_hooks s t job status ends =
-    (hook_of ends.held.by status,
-    ends.closes.2 ∙ ap (λ (hooks : List Hook). hook_of ends.held.by status ∷ hooks) (come_hooks ends.held s ends.mid ends.why ends.comes))
+ended_hooks s t job status ends = (
+  hook_of ends.held.by status,
+  ends.closes.2 ∙ ap (λ (hooks : List Hook). hook_of ends.held.by status ∷ hooks) (come_hooks ends.held s ends.mid ends.why ends.comes),
+)
 
 -- a step that ends no revision gives none
 other_hooks : (s t : State) (job : JobNo) (v w : View) (came : Stepped) → ((status : Status) → came ≡ stepped.Ended status → ⊥)

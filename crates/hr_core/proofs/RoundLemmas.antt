@@ -2,10 +2,9 @@
 use Rattle.std.proofs.Common.{◌≡◌, ◌⊎◌, inl, inr, refl, sym, ap, subst, ◌∙◌, zero, suc, ℕ, ◌+◌, ◌<◌, ◌≤◌, Bool, true, false, List, [], ◌∷◌, length, arith}
 use Rattle.std.proofs.lemmas.Bool.Decides.{nat_tests}
 use Rattle.std.specs.List.{Contains}
-use Rattle.std.specs.Prelude.{Option, Some, None, Result, Ok, Err, IfOk, OnErr, OnOk, cond, nat_lt, slice_get}
+use Rattle.std.specs.Prelude.{Some, None, Result, Ok, Err, IfOk, OnErr, OnOk, cond, nat_lt, slice_get}
 use Rattle.hr_base.specs.declared.memory.Memory.{Memory}
 use Rattle.hr_base.specs.declared.number.JobNo.{JobNo}
-use Rattle.hr_base.specs.declared.number.Moment.{Moment}
 use Rattle.hr_event.specs.declared.event.Event.{Event}
 use Rattle.hr_event.specs.declared.event.Event.TheVariants as event
 use Rattle.hr_event.specs.declared.task.Turn.{Turn}
@@ -13,7 +12,6 @@ use Rattle.hr_event.specs.declared.told.Told.{Told}
 use Rattle.hr_event.specs.declared.told.Told.TheVariants as told
 use Rattle.hr_event.specs.declared.view.Received.{Received}
 use Rattle.hr_board.specs.Plain.{Plain, view_of}
-use Rattle.hr_line.specs.State.{State}
 use Rattle.hr_line.specs.declared.answer.Stepped.{Stepped}
 use Rattle.hr_queue.specs.ByJob.{AllAbove, IsOut, IsRising, rank}
 use Rattle.hr_queue.specs.Settling.{Settles}
@@ -21,15 +19,14 @@ use Rattle.hr_queue.specs.View as queue
 use Rattle.hr_queue.specs.declared.answer.Settled.{Settled}
 use Rattle.hr_queue.specs.declared.answer.Taken.{Taken}
 use Rattle.hr_queue.specs.declared.answer.Taken.TheVariants as taken
-use Rattle.hr_run.specs.Delivering.{Delivers}
-use Rattle.hr_run.specs.Finish.{DeliversFrom, Finishes, Rounds, RunsOn, RunsOut, RunsRounds, RunsTurn, StepsOut}
+use Rattle.hr_run.specs.Finish.{DeliversFrom, Finishes, Rounds, RunsRounds, StepsOut}
 use Rattle.hr_run.specs.Ready.{IsReady}
 use Rattle.hr_run.specs.Run.{Cut, DeliversSome, Does, StepsSome, TakeCut}
 use Rattle.hr_run.specs.Sound.{IsSound}
 use Rattle.hr_run.specs.State.{CoreState, was_delivered}
-use Rattle.hr_run.specs.Turning.{AdmitsTurn, FindsSwept, GoesOut, NoneHolds, SettlesOut, StepsJob, TakesTurn, settled_told}
+use Rattle.hr_run.specs.Turning.{AdmitsTurn, FindsSwept, GoesOut, NoneHolds, SettlesOut, TakesTurn, settled_told}
 use Rattle.hr_core.specs.Hooks.{GivesHook}
-use Rattle.hr_core.specs.Lanes.{DidStep, IsAdmissible, StepsAt}
+use Rattle.hr_core.specs.Lanes.{DidStep, StepsAt}
 use Rattle.hr_core.specs.Rounds.{Begins, BeginsNext, GivesBack, IsBusy, RoundCame, RoundCut, RunsRound, StepsAway}
 use Rattle.hr_core.specs.Rounds.RoundCut.{stepping, taking, turning}
 use Rattle.hr_core.proofs.StateLemmas.{out_on_board}
@@ -149,17 +146,19 @@ pub gives_back : (before now : CoreState) (turn : Turn) (turns : queue.View) (bo
     → IsReady now → Contains now.turns.out turn → NoneHolds now.lanes turn.job
     → Settles before.now before.turns (view_of before.board) turn came turns (view_of board)
     → GivesBack now turn.job (record before { board = board; turns = turns })
-gives_back before now turn turns board came same ready out none (inr h) =
-    (settled_told turn.job came, subst (λ (x : CoreState). SettlesOut x turn.job (settled_told turn.job came) (record before { board = board; turns = turns })) same
-    (record {
-      turn = turn;
-      of_job = refl;
-      none = subst (λ (x : CoreState). NoneHolds x.lanes turn.job) (sym same) none;
-      came = came;
-      settles = h;
-      tells = refl;
-      after = refl;
-    }))
+gives_back before now turn turns board came same ready out none (inr h) = (
+  settled_told turn.job came,
+  subst (λ (x : CoreState). SettlesOut x turn.job (settled_told turn.job came) (record before { board = board; turns = turns })) same
+      (record {
+        turn = turn;
+        of_job = refl;
+        none = subst (λ (x : CoreState). NoneHolds x.lanes turn.job) (sym same) none;
+        came = came;
+        settles = h;
+        tells = refl;
+        after = refl;
+      }),
+)
 gives_back before now turn turns board came same ready out none (inl n) =
     let there : IsOut now.turns.out turn turn =
     record { there = rising_rank now.turns.out turn ready.holds.whole.turns.rising out; job = refl; rev = refl } in

@@ -40,7 +40,10 @@ impl<A: Registry> Core<A> {
     {
         let none = List::new(alloc);
         self.store.is_sound();
-        match self.store.create(alloc, PolicyNo(1), Trigger::Manual, none, self.moment) {
+        match self
+            .store
+            .create(alloc, PolicyNo(1), Trigger::Manual, none, self.moment)
+        {
             Ok(exec) => {
                 a_new_execution_is_found();
                 self.store.mark_failed(exec);
@@ -69,7 +72,10 @@ impl<A: Registry> Core<A> {
         self.turns.reserve(tasks)?;
         self.is_sound();
         let made = self.made.with(specs.view());
-        match self.store.create(alloc, PolicyNo(1), Trigger::Manual, specs, self.moment) {
+        match self
+            .store
+            .create(alloc, PolicyNo(1), Trigger::Manual, specs, self.moment)
+        {
             Ok(exec) => {
                 self.turns.add(&mut self.board, &queued);
                 self.made = made;

@@ -117,12 +117,7 @@ impl<A: Registry> Core<A> {
     {
         self.hooks.reserve(1)?;
         steps_come_to_an_end();
-        Ok(step_job(
-            &mut self.lanes[at],
-            &mut self.board,
-            &mut self.hooks,
-            job,
-        ))
+        Ok(step_job(&mut self.lanes[at], &mut self.board, &mut self.hooks, job))
     }
 
     /// Gives back the turn of a job that no lane holds.

@@ -1,4 +1,4 @@
-use Rattle.std.proofs.Common.{◌≡◌, ◌∙◌, ap, refl, subst, sym}
+use Rattle.std.proofs.Common.{◌∙◌, ap, refl, subst}
 use Rattle.hr_run.specs.State.{CoreState}
 use Rattle.hr_run.specs.Turning.{NoneHolds}
 use Rattle.hr_core.proofs.RoundLemmas.{on_err, step_outs, step_ready, step_some, step_turns, steps_away, steps_cut}
