@@ -1,0 +1,11 @@
+mod JournalLemmas
+mod TagsLemmas
+mod CauseLemmas
+mod MarkLemmas
+mod DeliverLemmas
+mod EmitLemmas
+mod StateLemmas
+mod TurnLemmas
+mod PlanLemmas
+mod RoundLemmas
+mod EventLemmas

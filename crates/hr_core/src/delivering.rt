@@ -1,0 +1,82 @@
+//! Hooks are delivered to the store: emitted ones by their number, or one that nobody emitted. (Our
+//! own, after Harbor's task manager.)
+ghost use Rattle.std.specs.Prelude.{◌≡◌, ◌≤◌, ◌<◌, suc, IfOk, OnErr, OnOk, length};
+ghost use Rattle.std.specs.Vec.{vec_len, vec_capacity};
+ghost use Rattle.hr_run.specs.State.{with_mark};
+
+use crate::engine::Core;
+use hr_adapter::Registry;
+use hr_base::{Hook, Memory};
+use hr_event::{Received, Told};
+
+impl<A: Registry> Core<A> {
+    ghost use Rattle.hr_core.specs.Hooks.{GivesHook};
+    ghost use Rattle.hr_run.specs.Delivering.{Forges};
+    ghost use Rattle.hr_run.specs.Does.{DeliversNumber};
+    ghost use Rattle.hr_run.specs.Ready.{IsReady};
+
+    /// Delivers the hook of a number, from 1, in the order in which they were emitted.
+    pub(crate) fn deliver(&mut self, number: u32) -> Result<Told, Memory>
+        requires ready { IsReady self.old }
+        ensures ok { IfOk result (λ answer. DeliversNumber self.old number answer self.new) }
+        ensures err { OnErr result (self.new ≡ self.old) }
+    {
+        if number == 0 || self.hooks.len() < number as usize {
+            return Ok(Told::NoHook { hook: number });
+        }
+        let received = self.deliver_at(number as usize - 1)?;
+        Ok(Told::Heard {
+            hook: number,
+            received,
+        })
+    }
+
+    /// Delivers the hook at a place, from 0.
+    pub(crate) fn deliver_at(&mut self, place: usize) -> Result<Received, Memory>
+        requires ready { IsReady self.old }
+        requires place { place < length self.old.hooks }
+        ensures ok { IfOk result (λ came. GivesHook self.old place came self.new) }
+        ensures err { OnErr result (self.new ≡ self.old) }
+    {
+        let hook = self.hooks[place];
+        reserve_mark(&mut self.delivered, place)?;
+        let came = self.store.receive(&mut self.board, hook);
+        mark(&mut self.delivered, place);
+        Ok(came)
+    }
+
+    /// Delivers a hook, of a revision from 0 to 3, that nobody emitted.
+    pub(crate) fn forge(&mut self, hook: Hook) -> Told
+        requires ready { IsReady self.old }
+        requires rev { hook.rev ≤ 3 }
+        ensures { Forges self.old hook result self.new }
+    {
+        let received = self.store.receive(&mut self.board, hook);
+        Told::Heard { hook: 0, received }
+    }
+}
+
+// Takes room for the mark at a place.
+fn reserve_mark(marks: &mut Vec<bool>, place: usize) -> Result<(), Memory>
+    ensures ok { OnOk result (place < vec_capacity marks.new) }
+    ensures same { marks.new.items ≡ marks.old.items }
+{
+    if marks.len() <= place {
+        let Some(more) = (place - marks.len()).checked_add(1) else {
+            return Err(Memory);
+        };
+        marks.reserve(more)?;
+    }
+    Ok(())
+}
+
+// Sets the mark at a place, for which there is room: what is missing before it was not delivered.
+fn mark(marks: &mut Vec<bool>, place: usize)
+    requires { place < vec_capacity marks.old }
+    ensures { marks.new.items ≡ with_mark marks.old.items place }
+{
+    'missing: while marks.len() <= place {
+        marks.push_reserved(false);
+    }
+    marks[place] = true;
+}
