@@ -1,6 +1,6 @@
 //! Hooks are delivered to the store: emitted ones by their number, or one that nobody emitted. (Our
 //! own, after Harbor's task manager.)
-ghost use Rattle.std.specs.Prelude.{◌≡◌, ◌≤◌, ◌<◌, suc, IfOk, OnErr, OnOk, length};
+ghost use Rattle.std.specs.Prelude.{◌≡◌, ◌≤◌, ◌<◌, IfOk, OnErr, length};
 
 use crate::engine::Core;
 use hr_adapter::Registry;

@@ -1,6 +1,6 @@
 //! The core: what it has, and how it begins. (Our own, after Harbor's job service and its task
 //! manager.)
-ghost use Rattle.std.specs.Prelude.{◌≡◌, ◌≤◌, ◌<◌, IfOk, length};
+ghost use Rattle.std.specs.Prelude.{◌≡◌, ◌≤◌, ◌<◌, IfOk};
 ghost use Rattle.std.specs.List.{AllByRecursion};
 ghost use Rattle.hr_lane.specs.Conn.{links_of};
 ghost use Rattle.hr_session.specs.Lane.{IsLaneSound};

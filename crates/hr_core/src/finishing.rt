@@ -1,6 +1,6 @@
 //! A finish: all turns are taken to their ends, and all hooks delivered. (Our own, after Harbor's job
 //! service.)
-ghost use Rattle.std.specs.Prelude.{◌≡◌, ◌<◌, OnErr, OnOk, length, suc};
+ghost use Rattle.std.specs.Prelude.{◌<◌, OnErr, OnOk};
 ghost use Rattle.hr_event.specs.declared.event.Event.TheVariants as event;
 
 use crate::engine::Core;

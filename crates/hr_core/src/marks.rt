@@ -1,5 +1,5 @@
 //! Which hooks were delivered, by their places. (Our own.)
-ghost use Rattle.std.specs.Prelude.{◌≡◌, ◌<◌, suc, true, [], ℕ, OnOk};
+ghost use Rattle.std.specs.Prelude.{◌≡◌, ◌<◌, suc, true, [], OnOk};
 ghost use Rattle.std.specs.Vec.{vec_capacity};
 ghost use Rattle.hr_core.specs.Marks.{AreSet};
 ghost use Rattle.hr_run.specs.State.{was_delivered, with_mark};
