@@ -26,6 +26,7 @@ use Rattle.hr_run.specs.Sound.{IsSound}
 use Rattle.hr_run.specs.State.{CoreState, was_delivered}
 use Rattle.hr_run.specs.Turning.{AdmitsTurn, FindsSwept, GoesOut, NoneHolds, SettlesOut, TakesTurn, settled_told}
 use Rattle.hr_core.specs.Hooks.{GivesHook}
+use Rattle.hr_core.specs.Marks.{AreSet}
 use Rattle.hr_core.specs.Lanes.{DidStep, StepsAt}
 use Rattle.hr_core.specs.Rounds.{Begins, BeginsNext, GivesBack, IsBusy, RoundCame, RoundCut, RunsRound, StepsAway}
 use Rattle.hr_core.specs.Rounds.RoundCut.{stepping, taking, turning}
@@ -310,6 +311,17 @@ delivers_cut o s t place some same = subst (λ (x : CoreState). DeliversSome 0 o
 pub delivers_all : (o s : CoreState) (place : ℕ) → ((u : CoreState) → DeliversFrom place s u → DeliversFrom 0 o u)
     → length s.hooks ≤ place → DeliversFrom 0 o s
 delivers_all o s place from past = from s (DeliversFrom.all place s past)
+
+-- what was delivered at the front is passed
+pub passes_from : (s : CoreState) (front : ℕ) → AreSet s.delivered front → (t : CoreState) → DeliversFrom front s t → DeliversFrom 0 s t
+passes_from s zero set t rest = rest
+passes_from s (suc n) set t rest =
+    passes_from s n (λ place less. set place (omega (arith, less))) t (DeliversFrom.again n s t (set n (omega arith)) rest)
+
+pub passes_some : (s : CoreState) (front : ℕ) → AreSet s.delivered front → (t : CoreState) → DeliversSome front s t → DeliversSome 0 s t
+passes_some s zero set t rest = rest
+passes_some s (suc n) set t rest =
+    passes_some s n (λ place less. set place (omega (arith, less))) t (DeliversSome.again n s t (set n (omega arith)) rest)
 
 -- ---- answers
 

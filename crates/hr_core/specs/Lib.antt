@@ -5,3 +5,4 @@ pub mod Tags
 pub mod Planning
 pub mod Rounds
 pub mod Comes
+pub mod Marks

@@ -1,8 +1,6 @@
 //! Hooks are delivered to the store: emitted ones by their number, or one that nobody emitted. (Our
 //! own, after Harbor's task manager.)
-ghost use Rattle.std.specs.Prelude.{◌≡◌, ◌≤◌, ◌<◌, suc, IfOk, OnErr, OnOk, length};
-ghost use Rattle.std.specs.Vec.{vec_len, vec_capacity};
-ghost use Rattle.hr_run.specs.State.{with_mark};
+ghost use Rattle.std.specs.Prelude.{◌≡◌, ◌≤◌, ◌<◌, IfOk, OnErr, length};
 
 use crate::engine::Core;
 use hr_adapter::Registry;
@@ -39,9 +37,9 @@ impl<A: Registry> Core<A> {
         ensures err { OnErr result (self.new ≡ self.old) }
     {
         let hook = self.hooks[place];
-        reserve_mark(&mut self.delivered, place)?;
+        self.delivered.reserve(place)?;
         let came = self.store.receive(&mut self.board, hook);
-        mark(&mut self.delivered, place);
+        self.delivered.set(place);
         Ok(came)
     }
 
@@ -54,29 +52,4 @@ impl<A: Registry> Core<A> {
         let received = self.store.receive(&mut self.board, hook);
         Told::Heard { hook: 0, received }
     }
-}
-
-// Takes room for the mark at a place.
-fn reserve_mark(marks: &mut Vec<bool>, place: usize) -> Result<(), Memory>
-    ensures ok { OnOk result (place < vec_capacity marks.new) }
-    ensures same { marks.new.items ≡ marks.old.items }
-{
-    if marks.len() <= place {
-        let Some(more) = (place - marks.len()).checked_add(1) else {
-            return Err(Memory);
-        };
-        marks.reserve(more)?;
-    }
-    Ok(())
-}
-
-// Sets the mark at a place, for which there is room: what is missing before it was not delivered.
-fn mark(marks: &mut Vec<bool>, place: usize)
-    requires { place < vec_capacity marks.old }
-    ensures { marks.new.items ≡ with_mark marks.old.items place }
-{
-    'missing: while marks.len() <= place {
-        marks.push_reserved(false);
-    }
-    marks[place] = true;
 }

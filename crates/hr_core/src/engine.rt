@@ -1,11 +1,12 @@
 //! The core: what it has, and how it begins. (Our own, after Harbor's job service and its task
 //! manager.)
-ghost use Rattle.std.specs.Prelude.{◌≡◌, ◌≤◌, ◌<◌, IfOk, length};
+ghost use Rattle.std.specs.Prelude.{◌≡◌, ◌≤◌, ◌<◌, IfOk};
 ghost use Rattle.std.specs.List.{AllByRecursion};
 ghost use Rattle.hr_lane.specs.Conn.{links_of};
 ghost use Rattle.hr_session.specs.Lane.{IsLaneSound};
 
 use crate::made::Made;
+use crate::marks::Marks;
 use hr_adapter::Registry;
 use hr_base::{Hook, List, Memory, Moment};
 use hr_board::PlainBoard;
@@ -26,7 +27,7 @@ pub struct Core<A: Registry> {
     pub(crate) store: Store,
     pub(crate) made: Made,
     pub(crate) hooks: Vec<Hook>,
-    pub(crate) delivered: Vec<bool>,
+    pub(crate) delivered: Marks,
     pub(crate) moment: Moment,
     pub(crate) others: Vec<Conn<A>>,
     pub(crate) plan: Option<List<TaskSpec>>,
@@ -45,7 +46,7 @@ impl<A: Registry> Model for Core<A> {
       store = c.store;
       made = c.made;
       hooks = c.hooks.items;
-      delivered = c.delivered.items;
+      delivered = c.delivered.marks;
       now = c.moment.0;
       others = links_of A.seen c.others.items;
       plan = c.plan;
@@ -76,7 +77,7 @@ impl<A: Registry> Core<A> {
             store: Store::new(alloc, jobs),
             made: Made::new(),
             hooks: Vec::new(alloc),
-            delivered: Vec::new(alloc),
+            delivered: Marks::new(alloc),
             moment: Moment(0),
             others: Vec::from(others),
             plan,

@@ -1,8 +1,7 @@
 //! A finish: all turns are taken to their ends, and all hooks delivered. (Our own, after Harbor's job
 //! service.)
-ghost use Rattle.std.specs.Prelude.{◌≡◌, ◌<◌, OnErr, OnOk, length, suc};
+ghost use Rattle.std.specs.Prelude.{◌<◌, OnErr, OnOk};
 ghost use Rattle.hr_event.specs.declared.event.Event.TheVariants as event;
-ghost use Rattle.hr_run.specs.State.{was_delivered};
 
 use crate::engine::Core;
 use hr_adapter::Registry;
@@ -34,7 +33,7 @@ impl<A: Registry> Core<A> {
         Err(Memory)
     }
 
-    // Delivers each hook that was not delivered, in order.
+    // Delivers each hook that was not delivered, in order, from the first such one on.
     fn deliver_all(&mut self) -> Result<(), Memory>
         requires ready { IsReady self.old }
         ensures ok { OnOk result (DeliversFrom 0 self.old self.new) }
@@ -42,22 +41,13 @@ impl<A: Registry> Core<A> {
     {
         self.is_sound();
         core_stays_ready();
-        for place in 0..self.hooks.len() {
-            if !was_marked(&self.delivered, place) {
+        let first = self.delivered.front();
+        for place in first..self.hooks.len() {
+            if !self.delivered.has(place) {
                 self.deliver_at(place)?;
                 self.is_sound();
             }
         }
         Ok(())
-    }
-}
-
-// Whether the mark at a place is set.
-fn was_marked(marks: &[bool], place: usize) -> bool
-    ensures { result ≡ was_delivered marks.now (suc place) }
-{
-    match marks.get(place) {
-        Some(mark) => *mark,
-        None => false,
     }
 }

@@ -10,6 +10,7 @@ mod finishing;
 mod journal;
 mod lanes;
 mod made;
+mod marks;
 mod passing;
 mod rounds;
 mod stopping;

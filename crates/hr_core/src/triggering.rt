@@ -1,6 +1,6 @@
 //! A trigger: the plan becomes an execution, with a job for each of its tasks. (Our own, after
 //! Harbor's replication controller.)
-ghost use Rattle.std.specs.Prelude.{◌≡◌, ◌+◌, ◌≤◌, ◌<◌, ◌^◌, Some, None, [], IfOk, OnErr, length};
+ghost use Rattle.std.specs.Prelude.{◌≡◌, ◌+◌, ◌<◌, ◌^◌, Some, None, IfOk, OnErr, length};
 ghost use Rattle.hr_run.specs.State.{queued_from};
 
 use crate::engine::Core;

@@ -1,6 +1,6 @@
 //! Turns: one is taken and its revision admitted to a lane, a job is stepped, and a turn is given
 //! back. (Our own, after Harbor's job service.)
-ghost use Rattle.std.specs.Prelude.{◌≡◌, ◌⊎◌, ◌≤◌, ◌<◌, None, IfOk, IsSome, OnErr, OnOk, MatchOption, length, reverse};
+ghost use Rattle.std.specs.Prelude.{◌≡◌, ◌⊎◌, ◌<◌, None, IfOk, IsSome, OnErr, MatchOption, reverse};
 ghost use Rattle.hr_event.specs.declared.task.Turn.{Turn};
 ghost use Rattle.hr_queue.specs.declared.answer.Taken.TheVariants as taken;
 ghost use Rattle.hr_session.specs.Answer.{last_done};

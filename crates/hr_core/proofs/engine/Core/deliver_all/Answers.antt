@@ -1,7 +1,8 @@
-use Rattle.std.proofs.Common.{◌≡◌, ◌≤◌, ◌+◌, suc, false, true, length, subst, sym, ◌∙◌, rules}
+use Rattle.std.proofs.Common.{◌≡◌, ◌≤◌, ◌+◌, suc, false, true, length, subst, sym, ◌∙◌, rules, refl}
 use Rattle.hr_run.specs.State.{CoreState, was_delivered}
-use Rattle.hr_core.proofs.RoundLemmas.{Delivering, again_from, again_some, delivers_all, delivers_cut, on_err, one_from, one_hooks, one_ready, one_some}
-use Rattle.hr_core.proofs.engine.Core.deliver_all.Goals.{then-not-was_marked+in_ok-deliver_at, else-not-was_marked}
+use Rattle.hr_core.specs.Marks.{AreSet}
+use Rattle.hr_core.proofs.RoundLemmas.{Delivering, again_from, again_some, delivers_all, delivers_cut, on_err, one_from, one_hooks, one_ready, one_some, passes_from, passes_some}
+use Rattle.hr_core.proofs.engine.Core.deliver_all.Goals.{then-not-has+in_ok-deliver_at, else-not-has}
 use Rattle.hr_core.proofs.engine.Core.deliver_all.Goals as goal
 
 pub returns-in_err-deliver_at-clause-err : goal.returns-in_err-deliver_at-clause-err
@@ -9,19 +10,30 @@ returns-in_err-deliver_at-clause-err g c =
     on_err c.from_residual.result _ (delivers_cut c.args.self.now c.loop-place.self c.deliver_at.new.self c.loop-place.place
     c.loop-place.invariant.some c.in_err-deliver_at.ensures.err)
 
+pub loop-place-init : goal.loop-place-init
+loop-place-init g c =
+    let set = subst (λ (p : CoreState). AreSet p.delivered c.front-first.result) c.self.view_is c.front-first.ensures in
+    record {
+      from = passes_from c.args.self.now c.front-first.result set;
+      some = passes_some c.args.self.now c.front-first.result set;
+      ready = c.requires.ready;
+      sound = c.is_sound.ensures;
+      hooks = refl;
+    }
+
 pub loop-place-preserved : goal.loop-place-preserved
 loop-place-preserved g c =
     let o = c.args.self.now in
     let s = c.loop-place.self in
     let place = c.loop-place.place in
     let before = c.loop-place.invariant in
-    let next : Delivering o c.if-not-was_marked.self (place + 1) = elim c.if-not-was_marked.branch [
-      | then-not-was_marked+in_ok-deliver_at w ↦ (
+    let next : Delivering o c.if-not-has.self (place + 1) = elim c.if-not-has.branch [
+      | then-not-has+in_ok-deliver_at w ↦ (
           let unheard : was_delivered s.delivered (suc place) ≡ false = search rules in
           let m = w.deliver_at.new.self in
           let came = w.in_ok-deliver_at.field-0 in
           let gives = w.in_ok-deliver_at.ensures.ok in
-          let sound = w.is_sound-then-not-was_marked.ensures in
+          let sound = w.is_sound-then-not-has.ensures in
           subst (λ (x : CoreState). Delivering o x (place + 1)) (sym w.self-is) (record {
             from = one_from o s m place came unheard gives sound before.from;
             some = one_some o s m place came unheard gives sound before.some;
@@ -29,7 +41,7 @@ loop-place-preserved g c =
             sound = sound;
             hooks = one_hooks o s m place came unheard gives sound ∙ before.hooks;
           }))
-      | else-not-was_marked w ↦ (
+      | else-not-has w ↦ (
           let heard : was_delivered s.delivered (suc place) ≡ true = search rules in
           subst (λ (x : CoreState). Delivering o x (place + 1)) (sym w.self-is) (record {
             from = again_from o s place heard before.from;

@@ -2,7 +2,7 @@
 use Rattle.std.proofs.Common.{◌≡◌, ◌<◌, ◌-◌, suc, length}
 use Rattle.std.specs.Vec.{vec_capacity}
 use Rattle.hr_run.specs.State.{with_mark}
-use Rattle.hr_core.proofs.delivering.mark.Given as goal
+use Rattle.hr_core.proofs.marks.set_mark.Given as goal
 
 abbrev pub invariant-missing : goal.invariant-missing
 invariant-missing l = record {

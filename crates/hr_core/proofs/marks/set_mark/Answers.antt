@@ -1,7 +1,7 @@
 use Rattle.std.proofs.Common.{◌≤◌, ◌<◌, ◌∙◌, ap, Bool, List, length, rules}
 use Rattle.hr_run.specs.State.{with_mark}
 use Rattle.hr_core.proofs.MarkLemmas.{mark_missing, mark_there}
-use Rattle.hr_core.proofs.delivering.mark.Goals as goal
+use Rattle.hr_core.proofs.marks.set_mark.Goals as goal
 
 pub missing-preserved : goal.missing-preserved
 missing-preserved c =
