@@ -1,0 +1,6 @@
+mod BackLemmas
+mod EndingLemmas
+mod ListingLemmas
+mod PathLemmas
+mod PlainLemmas
+mod QueryLemmas
