@@ -2,10 +2,9 @@
 ghost use Rattle.std.proofs.Common.{refl, rules};
 ghost use Rattle.std.specs.Cmp.{partial_equiv_from_equiv};
 ghost use Rattle.std.specs.Cmp.Rules.{hashing};
-ghost use Rattle.std.specs.Hash as fed;
 ghost use Rattle.std.specs.Ordering.{as_partial_cmp};
 ghost use Rattle.hr_digest.specs.Order.{digest_cmp, digest_eq, digests_equal, digests_ordered, digests_partly, digests_tie, hash_of};
-ghost use Rattle.std.specs.Prelude.{◌≡◌};
+ghost use Rattle.std.specs.Prelude.{◌≡◌, ◌∷◌, []};
 
 use crate::Digest;
 use std::cmp::Ordering;
@@ -61,11 +60,12 @@ impl Ord for Digest {
 }
 
 impl Hash for Digest {
-    ghost hash_input = { λ d. fed.slice ⟦<u8 as Hash>⟧.hash_input (hash_of d) };
+    // All bytes in one write.
+    ghost hash_input = { λ d. hash_of d ∷ [] };
 
     ghost respects_eq = { Prim.search (hashing, rules) };
 
     fn hash<H: Hasher>(&self, state: &mut H) {
-        self.hash_bytes().hash(state);
+        state.write(self.hash_bytes());
     }
 }
