@@ -8,9 +8,7 @@ use crate::line::Line;
 use crate::refusal::Refused;
 use crate::split::{end_words, take_word};
 use crate::status::read_status;
-use crate::word::{
-    read_job, read_policy, read_registry, read_revision, read_seconds, read_small,
-};
+use crate::word::{read_job, read_policy, read_registry, read_revision, read_seconds, read_small};
 use hr_base::{ExecNo, Hook, JobNo};
 use hr_event::Event;
 
