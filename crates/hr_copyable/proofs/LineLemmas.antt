@@ -90,6 +90,7 @@ module _ (T : ByteList → Type 0) (once : (a b : ByteList) → T a → T b → 
   named_stands (line.Break r repo honest stored) reg old new named is stands texts made = absurd is
   named_stands (line.Fault lane r op lands) reg old new named is stands texts made = absurd is
   named_stands (line.Change lane r op repo tag to) reg old new named is stands texts made = absurd is
+  named_stands (line.Jobs jobs) reg old new named is stands texts made = cc named
   named_stands (line.Event event) reg old new named is stands texts made = cc named
 
 -- ---- the others
@@ -108,6 +109,7 @@ other_tree (line.Manifest r repo tag media text) before reg named is apart = ref
 other_tree (line.Break r repo honest stored) before reg named is apart = refl
 other_tree (line.Fault lane r op lands) before reg named is apart = refl
 other_tree (line.Change lane r op repo tag to) before reg named is apart = refl
+other_tree (line.Jobs jobs) before reg named is apart = refl
 other_tree (line.Event event) before reg named is apart = refl
 
 other_stands : (T : ByteList → Type 0) (l : Line) (before : List Line) (reg : RegNo) (other : ℕ) (setup : RegSetup) → registry_named l ≡ Some reg
@@ -132,9 +134,10 @@ named_fits (line.Manifest r repo tag media text) reg fit is = subst IsNumbered (
 named_fits (line.Break r repo honest stored) reg fit is = subst IsNumbered (some_same r reg is) fit
 named_fits (line.Fault lane r op lands) reg fit is = subst IsNumbered (some_same r reg is) fit.0
 named_fits (line.Change lane r op repo tag to) reg fit is = subst IsNumbered (some_same r reg is) fit.0
+named_fits (line.Jobs jobs) reg fit is = cc is
 named_fits (line.Event event) reg fit is = cc is
 
--- a line that names no registry is an event, and says nothing of a tag
+-- a line that names no registry says nothing of a tag
 no_tree : (l : Line) (before : List Line) (named : RegTag) → registry_named l ≡ None → tree_of (l ∷ before) named ≡ tree_of before named
 no_tree (line.Image r repo tag layers) before named is = cc is
 no_tree (line.Index r repo tag children) before named is = cc is
@@ -143,6 +146,7 @@ no_tree (line.Manifest r repo tag media text) before named is = refl
 no_tree (line.Break r repo honest stored) before named is = refl
 no_tree (line.Fault lane r op lands) before named is = refl
 no_tree (line.Change lane r op repo tag to) before named is = refl
+no_tree (line.Jobs jobs) before named is = refl
 no_tree (line.Event event) before named is = refl
 
 module _ (T : ByteList → Type 0) (once : (a b : ByteList) → T a → T b → digest_of a ≡ digest_of b → a ≡ b) (images : ImagesReadBack) (indexes : IndexesReadBack) where

@@ -69,13 +69,15 @@ pub record IsWithin (tree : Tree) : Type 0 where
   pub pairs : tree.pairs ≤ PAIR_LIMIT
 
 -- a line stores an image or an index of no more children than a manifest may list, and within the
--- other limits, or the manifest of an image alone; or it is an event
+-- other limits, or the manifest of an image alone; or it allows so many jobs, or is an
+-- event
 abbrev pub IsCanonical : List Line → Line → Type 0
 IsCanonical before (line.Image reg repo tag layers) =
     (length layers < CHILD_LIMIT) × AllByRecursion (λ layer. length layer ≤ BLOB_LIMIT) layers
 IsCanonical before (line.Index reg repo tag children) =
     (length children ≤ CHILD_LIMIT) × IsWithin (index_tree (trees_of before reg repo children))
 IsCanonical before (line.Orphan reg repo layers) = ⊤
+IsCanonical before (line.Jobs jobs) = ⊤
 IsCanonical before (line.Event event) = ⊤
 IsCanonical before _ = ⊥
 

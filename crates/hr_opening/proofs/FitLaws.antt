@@ -7,12 +7,13 @@ use Rattle.hr_base.specs.declared.number.RegNo.{RegNo}
 use Rattle.hr_event.specs.declared.event.Event.{Event}
 use Rattle.hr_event.specs.declared.event.Event.TheVariants as event
 use Rattle.hr_text.specs.Escaping.{IsUnescaped}
-use Rattle.hr_script.specs.Event.{cause_of, finish_of, only_job, step_of, stop_of, tags_of, take_of, trigger_of, word_of}
-use Rattle.hr_script.specs.Line.{break_of, image_of, index_of, manifest_of, orphan_of}
+use Rattle.hr_script.specs.Event.{cause_of, deliver_of, exec_of, finish_of, forge_of, only_job, only_number, row_of, settle_of, step_of, stop_of, sweep_of, tags_of, take_of, trigger_of, wait_of, word_of}
+use Rattle.hr_script.specs.Line.{break_of, image_of, index_of, jobs_of, manifest_of, orphan_of}
 use Rattle.hr_script.specs.Meaning.{Follows, each, gives}
 use Rattle.hr_script.specs.Planned.{change_of, fault_of}
 use Rattle.hr_script.specs.Reading.{IsReading}
-use Rattle.hr_script.specs.Word.{IsMedia, IsRegistry, job_in, lane_in, lane_numbered, layer_in, media_in, name_in, operation_in, policy_in, registry_in, revision_in, small_in, tag_in}
+use Rattle.hr_script.specs.Status.{status_in}
+use Rattle.hr_script.specs.Word.{IsMedia, IsRegistry, job_count_in, job_in, lane_in, lane_numbered, layer_in, media_in, name_in, operation_in, policy_in, registry_in, revision_in, seconds_in, small_in, tag_in}
 use Rattle.hr_script.specs.declared.line.Line.{Line}
 use Rattle.hr_script.specs.declared.line.Line.TheVariants as line
 use Rattle.hr_script.specs.declared.reading.Lines.{Lines}
@@ -118,6 +119,11 @@ change_fit (a ∷ b ∷ c ∷ d ∷ e ∷ f ∷ []) l is =
     (λ to six l then. given l (line.Change lane reg op repo tag to) then (numbered b reg two, only_lane a lane one))))))) l is
 change_fit (a ∷ b ∷ c ∷ d ∷ e ∷ f ∷ g ∷ others) l is = cc is
 
+jobs_fit : (words : List Text) (l : Line) → jobs_of words (Ok l) → IsFit l
+jobs_fit [] l is = cc is
+jobs_fit (a ∷ []) l is = through IsFit (job_count_in a) _ (λ jobs one l then. given l (line.Jobs jobs) then (record { some = one.some; few = one.few })) l is
+jobs_fit (a ∷ b ∷ others) l is = cc is
+
 trigger_fit : (words : List Text) (l : Line) → trigger_of words (Ok l) → IsFit l
 trigger_fit [] l is = cc is
 trigger_fit (a ∷ []) l is = through IsFit (policy_in a) _ (λ policy one l then. given l (line.Event (event.Trigger policy)) then tt) l is
@@ -149,6 +155,35 @@ word_fit (a ∷ b ∷ []) l is =
     through IsFit (job_in a) _ (λ job one. through IsFit (revision_in b) _ (λ rev two l then. given l (line.Event (event.Word job rev)) then two.few)) l is
 word_fit (a ∷ b ∷ c ∷ others) l is = cc is
 
+settle_fit : (words : List Text) (l : Line) → settle_of words (Ok l) → IsFit l
+settle_fit words l is = through IsFit (only_job words) _ (λ job one l then. given l (line.Event (event.Settle job)) then tt) l is
+
+deliver_fit : (words : List Text) (l : Line) → deliver_of words (Ok l) → IsFit l
+deliver_fit words l is = through IsFit (only_number words) _ (λ hook one l then. given l (line.Event (event.Deliver hook)) then tt) l is
+
+forge_fit : (words : List Text) (l : Line) → forge_of words (Ok l) → IsFit l
+forge_fit [] l is = cc is
+forge_fit (a ∷ []) l is = cc is
+forge_fit (a ∷ b ∷ []) l is = cc is
+forge_fit (a ∷ b ∷ c ∷ []) l is =
+    through IsFit (job_in a) _ (λ job one. through IsFit (revision_in b) _ (λ rev two. through IsFit (status_in c) _
+    (λ status three l then. given l (line.Event (event.Forge (record { job = job; rev = rev; status = status }))) then two.few))) l is
+forge_fit (a ∷ b ∷ c ∷ d ∷ others) l is = cc is
+
+wait_fit : (words : List Text) (l : Line) → wait_of words (Ok l) → IsFit l
+wait_fit [] l is = cc is
+wait_fit (a ∷ []) l is = through IsFit (seconds_in a) _ (λ seconds one l then. given l (line.Event (event.Wait seconds)) then one.few) l is
+wait_fit (a ∷ b ∷ others) l is = cc is
+
+sweep_fit : (words : List Text) (l : Line) → sweep_of words (Ok l) → IsFit l
+sweep_fit words l is = through IsFit (only_number words) _ (λ keep one l then. given l (line.Event (event.Sweep keep)) then tt) l is
+
+row_fit : (words : List Text) (l : Line) → row_of words (Ok l) → IsFit l
+row_fit words l is = through IsFit (only_job words) _ (λ job one l then. given l (line.Event (event.Row job)) then tt) l is
+
+exec_fit : (words : List Text) (l : Line) → exec_of words (Ok l) → IsFit l
+exec_fit words l is = through IsFit (only_number words) _ (λ number one l then. given l (line.Event (event.Exec (record { 0 = number }))) then tt) l is
+
 cause_fit : (words : List Text) (l : Line) → cause_of words (Ok l) → IsFit l
 cause_fit words l is = through IsFit (only_job words) _ (λ job one l then. given l (line.Event (event.CauseOf job)) then tt) l is
 
@@ -161,12 +196,20 @@ each_fit = record {
   broken = break_fit;
   fault = fault_fit;
   change = change_fit;
+  jobs = jobs_fit;
   trigger = trigger_fit;
   take = take_fit;
   step = step_fit;
+  settle = settle_fit;
   stop = stop_fit;
+  deliver = deliver_fit;
+  forge = forge_fit;
+  wait = wait_fit;
+  sweep = sweep_fit;
   finish = finish_fit;
   tags = tags_fit;
+  row = row_fit;
+  exec = exec_fit;
   word = word_fit;
   cause = cause_fit;
 }
@@ -185,6 +228,7 @@ event_fit (line.Manifest reg repo tag media text) fit rest others = others
 event_fit (line.Break reg repo honest stored) fit rest others = others
 event_fit (line.Fault lane reg op lands) fit rest others = others
 event_fit (line.Change lane reg op repo tag to) fit rest others = others
+event_fit (line.Jobs jobs) fit rest others = others
 event_fit (line.Event e) fit rest others = (fit, others)
 
 -- the events of lines that are fit are those that a script may have

@@ -1,6 +1,7 @@
 pub mod FitLaws
 pub mod OpeningLaws
 pub mod PlanLaws
+mod JobsLemmas
 mod KeptLemmas
 mod LineLemmas
 mod PlanLemmas

@@ -47,6 +47,7 @@ setup_honest (line.Fault lane reg op lands) old new keeps h is =
     along Honest (record old { failing = old.failing ++ record { op = op; lands = lands } ∷ [] }) new is h
 setup_honest (line.Change lane reg op repo tag to) old new keeps h is =
     some_along Honest (λ (d : Digest). with_change (record { op = op; repo = repo; tag = tag; digest = d }) old) (tag_at old.content repo to) new is (λ d. h)
+setup_honest (line.Jobs jobs) old new keeps h is = along Honest old new is h
 setup_honest (line.Event event) old new keeps h is = along Honest old new is h
 
 setup_plain : (l : Line) (old new : RegSetup) → IsFit l → IsPlain old.content → setup_after l old ≡ Some new → IsPlain new.content
@@ -65,6 +66,7 @@ setup_plain (line.Fault lane reg op lands) old new fit h is =
     along IsPlain (record old { failing = old.failing ++ record { op = op; lands = lands } ∷ [] }) new is h
 setup_plain (line.Change lane reg op repo tag to) old new fit h is =
     some_along IsPlain (λ (d : Digest). with_change (record { op = op; repo = repo; tag = tag; digest = d }) old) (tag_at old.content repo to) new is (λ d. h)
+setup_plain (line.Jobs jobs) old new fit h is = along IsPlain old new is h
 setup_plain (line.Event event) old new fit h is = along IsPlain old new is h
 
 -- ---- lines
@@ -127,4 +129,5 @@ named_fits (line.Manifest r repo tag media text) reg fit is = number_along r reg
 named_fits (line.Break r repo honest stored) reg fit is = number_along r reg is fit
 named_fits (line.Fault lane r op lands) reg fit is = number_along r reg is fit.0
 named_fits (line.Change lane r op repo tag to) reg fit is = number_along r reg is fit.0
+named_fits (line.Jobs jobs) reg fit is = cc is
 named_fits (line.Event event) reg fit is = cc is

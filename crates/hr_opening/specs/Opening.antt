@@ -22,6 +22,7 @@ registry_named (line.Manifest reg repo tag media text) = Some reg
 registry_named (line.Break reg repo honest stored) = Some reg
 registry_named (line.Fault lane reg op lands) = Some reg
 registry_named (line.Change lane reg op repo tag to) = Some reg
+registry_named (line.Jobs jobs) = None
 registry_named (line.Event event) = None
 
 -- a registry after a setup line that names it, where each tag is there to which the line leads
@@ -41,6 +42,7 @@ setup_after (line.Fault lane reg op lands) setup =
 setup_after (line.Change lane reg op repo tag to) setup = option_map
     (λ d. with_change (record { op = op; repo = repo; tag = tag; digest = d }) setup)
     (tag_at setup.content repo to)
+setup_after (line.Jobs jobs) setup = Some setup
 setup_after (line.Event event) setup = Some setup
 
 -- the registries with that one changed which is named
@@ -73,9 +75,25 @@ abbrev pub events_in : List Numbered → List Event
 events_in [] = []
 events_in (numbered ∷ rest) = event_in numbered.line ++ events_in rest
 
--- the lines open these registries, from number 1 on, and these are their events
+-- how many jobs there may be where no line says so
+abbrev pub jobs_unsaid : ℕ
+jobs_unsaid = 16384
+
+-- how many jobs there may be behind a line, where there might be so many before it
+abbrev pub jobs_after : ℕ → Line → ℕ
+jobs_after before (line.Jobs jobs) = jobs
+jobs_after before _ = before
+
+-- how many jobs there may be behind these lines: the last that says so counts
+abbrev pub jobs_said : ℕ → List Numbered → ℕ
+jobs_said before [] = before
+jobs_said before (numbered ∷ rest) = jobs_said (jobs_after before numbered.line) rest
+
+-- the lines open these registries, from number 1 on; these are their events, and there may be so
+-- many jobs
 pub record Opens (lines : List Numbered) (opened : Opened) : Type 0 where
   pub setups : Setups
   pub opens : after_lines no_setups lines ≡ Ok setups
   pub regs : opened.regs ≡ registries_of setups
   pub events : opened.events ≡ events_in lines
+  pub jobs : opened.jobs ≡ jobs_said jobs_unsaid lines

@@ -8,7 +8,7 @@ use Rattle.hr_adapter.specs.Listing.{repos_of, tags_of}
 use Rattle.hr_adapter.specs.declared.listed.Tagged.{Tagged}
 use Rattle.hr_adapter.specs.declared.registry.TheConstants.{LIST_LIMIT}
 
--- the task of a repository: all its tags, from registry 1 to registry 2, in one attempt
+-- the task of a repository: all its tags, from registry 1 to registry 2, in three attempts
 abbrev pub spec_of : RepoName → List Tagged → TaskSpec
 spec_of repo tags = record {
   policy = record { 0 = 1 };
@@ -18,7 +18,7 @@ spec_of repo tags = record {
   to = repo;
   tags = map (λ tagged. tagged.tag) tags;
   override_it = true;
-  attempts = 1;
+  attempts = 3;
 }
 
 -- the task of a repository that has a tag, and none of one that has none
@@ -43,12 +43,12 @@ abbrev pub plan_of : Content → Option (List TaskSpec)
 plan_of c = if is_short (repos_of c) && are_listed c (repos_of c)
     then Some (specs_of c (repos_of c)) else None
 
--- a task of policy 1: from registry 1 to the repository of the same name in registry 2, in one
--- attempt
+-- a task of policy 1: from registry 1 to the repository of the same name in registry 2, in three
+-- attempts
 pub record IsPlanned (spec : TaskSpec) : Type 0 where
   pub policy : spec.policy.0 ≡ 1
   pub src : spec.src.0 ≡ 1
   pub dst : spec.dst.0 ≡ 2
   pub same : spec.to ≡ spec.from
   pub over : spec.override_it ≡ true
-  pub attempts : spec.attempts ≡ 1
+  pub attempts : spec.attempts ≡ 3

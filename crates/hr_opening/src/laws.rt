@@ -7,7 +7,7 @@ ghost use Rattle.hr_event.specs.declared.task.TaskSpec.{TaskSpec};
 ghost use Rattle.hr_script.specs.Reading.{IsReading};
 ghost use Rattle.hr_script.specs.declared.reading.Lines.{Lines};
 ghost use Rattle.hr_script.specs.declared.reading.Numbered.{Numbered};
-ghost use Rattle.hr_opening.specs.Fit.{AreFit, KeepsHonest};
+ghost use Rattle.hr_opening.specs.Fit.{AreFit, IsJobLimit, KeepsHonest};
 ghost use Rattle.hr_opening.specs.Opening.{Opens};
 ghost use Rattle.hr_opening.specs.Plan.{IsPlanned, plan_of};
 ghost use Rattle.hr_opening.specs.declared.opening.Opened.{Opened};
@@ -23,6 +23,12 @@ pub fn eight_registries_open()
         → length opened.regs ≡ 8 }
 {}
 
+/// A law: there may be some jobs, and 262,144 at most, whatever is read of a text.
+pub fn some_jobs_may_be()
+    ensures { (lines : List Numbered) (opened : Opened) → AreFit lines → Opens lines opened
+        → IsJobLimit opened.jobs }
+{}
+
 /// A law: where no line stores bytes under the digest of others, everything stands under its own
 /// digest in each registry, and each tag names a manifest that is there.
 pub fn honest_lines_open_honest_registries()
@@ -31,7 +37,8 @@ pub fn honest_lines_open_honest_registries()
         → AllByRecursion (λ registry. Honest registry.content) opened.regs }
 {}
 
-/// A law: each task of a plan is of policy 1, and goes from registry 1 to registry 2 in one attempt.
+/// A law: each task of a plan is of policy 1, and goes from registry 1 to registry 2 in three
+/// attempts.
 pub fn plans_go_from_1_to_2()
     ensures { (c : Content) (specs : List TaskSpec) → plan_of c ≡ Some specs
         → AllByRecursion IsPlanned specs }

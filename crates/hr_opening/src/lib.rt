@@ -11,6 +11,9 @@ mod storing;
 #[cfg(test)]
 mod tests;
 
-pub use laws::{eight_registries_open, honest_lines_open_honest_registries, what_is_read_is_fit};
+pub use laws::{
+    eight_registries_open, honest_lines_open_honest_registries, some_jobs_may_be,
+    what_is_read_is_fit,
+};
 pub use opening::{OpenRefused, Opened, open_script};
 pub use planning::plan;

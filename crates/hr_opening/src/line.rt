@@ -17,7 +17,7 @@ use hr_name::{Name, Tag};
 use hr_script::Line;
 use std::alloc::Global;
 
-/// Does what a line says to the registry that it names; an event names none. After an error that
+/// Does what a line says to the registry that it names; `jobs` and an event name none. After an error that
 /// registry may have a part of it.
 pub(crate) fn take_setup(
     alloc: Global,
@@ -48,7 +48,7 @@ fn registry_named(line: &Line) -> Option<RegNo>
         | Line::Break { reg, .. }
         | Line::Fault { reg, .. }
         | Line::Change { reg, .. } => Some(*reg),
-        Line::Event(_) => None,
+        Line::Jobs { .. } | Line::Event(_) => None,
     }
 }
 
@@ -100,7 +100,7 @@ fn change_setup(alloc: Global, setup: &mut RegSetup, line: Line) -> Result<(), L
             to,
             ..
         } => plan_change(setup, op, repo, tag, &to),
-        Line::Event(_) => Ok(()),
+        Line::Jobs { .. } | Line::Event(_) => Ok(()),
     }
 }
 

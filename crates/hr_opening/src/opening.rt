@@ -1,7 +1,7 @@
 //! The opening of a script: its registries and its events, from its lines. (Our own.)
 ghost use Rattle.std.specs.Prelude.{◌≡◌, ◌++◌, ℕ, OnOk, IfOk, Some, None, length};
 ghost use Rattle.hr_opening.specs.Fit.{AreFit, IsFit};
-ghost use Rattle.hr_opening.specs.Opening.{Opens, after_line, after_lines, event_in, events_in};
+ghost use Rattle.hr_opening.specs.Opening.{Opens, after_line, after_lines, event_in, events_in, jobs_after, jobs_said, jobs_unsaid};
 ghost use Rattle.hr_opening.specs.Setup.{ArePlain, no_setups};
 
 use crate::line::take_setup;
@@ -20,6 +20,8 @@ pub struct Opened {
     pub regs: List<MemRegistry>,
     /// Its events, in order.
     pub events: List<Event>,
+    /// How many jobs there may be, 1 to 262,144.
+    pub jobs: u32,
 }
 
 /// Why a script is not opened.
@@ -36,7 +38,8 @@ pub enum OpenRefused {
 /// The lines work in order. Those of images, indexes, orphans, manifests and broken blobs store in
 /// the registry that they name, and a later one replaces what stands at its place; `fault`, `lands`
 /// and `change` plan something more for its operations. The children of an index and the second
-/// tag of a change must be there at their line. It takes time in proportion to the lines, but for
+/// tag of a change must be there at their line. Of several lines `jobs` the last counts, and without
+/// one there may be 16,384 jobs. It takes time in proportion to the lines, but for
 /// the look-ups.
 pub fn open_script(alloc: Global, lines: List<Numbered>) -> Result<Opened, OpenRefused>
     requires { AreFit lines }
@@ -44,6 +47,7 @@ pub fn open_script(alloc: Global, lines: List<Numbered>) -> Result<Opened, OpenR
     ensures reference { (line : ℕ) → result ≡ Err (OpenRefused.Reference line)
         → after_lines no_setups lines ≡ Err line }
 {
+    let jobs = find_jobs(lines.view());
     let mut setups = match empty_setups(alloc) {
         Ok(setups) => setups,
         Err(Memory) => return Err(OpenRefused::Memory),
@@ -53,8 +57,32 @@ pub fn open_script(alloc: Global, lines: List<Numbered>) -> Result<Opened, OpenR
         Err(refused) => return Err(refused),
     };
     match open_all(alloc, setups) {
-        Ok(regs) => Ok(Opened { regs, events }),
+        Ok(regs) => Ok(Opened { regs, events, jobs }),
         Err(Memory) => Err(OpenRefused::Memory),
+    }
+}
+
+// How many jobs there may be where no line says so.
+const JOBS_UNSAID: u32 = 16_384;
+
+// How many jobs there may be by these lines.
+fn find_jobs(lines: &[Numbered]) -> u32
+    ensures { result ≡ jobs_said jobs_unsaid lines.now }
+{
+    let mut jobs = JOBS_UNSAID;
+    for numbered in lines {
+        jobs = jobs_after(jobs, &numbered.line);
+    }
+    jobs
+}
+
+// How many jobs there may be behind a line, where there might be so many before it.
+fn jobs_after(before: u32, line: &Line) -> u32
+    ensures { result ≡ jobs_after before line.now }
+{
+    match line {
+        Line::Jobs { jobs } => *jobs,
+        _ => before,
     }
 }
 

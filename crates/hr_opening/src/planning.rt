@@ -62,7 +62,7 @@ fn make_spec(alloc: Global, name: &Name, tags: &List<Tagged>) -> Result<TaskSpec
         to: name.copy(alloc)?,
         tags: pick_tags(alloc, tags.view())?,
         override_it: true,
-        attempts: 1,
+        attempts: 3,
     })
 }
 

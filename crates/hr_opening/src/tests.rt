@@ -7,7 +7,7 @@ use std::test::Fail;
 #[test]
 fn a_script_opens_its_registries_in_order(rt: HostRuntime) -> Result<(), Fail> {
     let text =
-        b"image 1 a/b one aa\nindex 1 a/b both one\nbreak 1 a/b aa bb\nlands 0 2 4\nchange 0 1 3 a/b new one\ntrigger 1\n";
+        b"image 1 a/b one aa\nindex 1 a/b both one\nbreak 1 a/b aa bb\nlands 0 2 4\nchange 0 1 3 a/b new one\njobs 9\njobs 7\ntrigger 1\n";
     let read = read_lines(rt.alloc(), text)?;
     let opened = open_script(rt.alloc(), read.lines)?;
     let regs = opened.regs.view();
@@ -19,5 +19,6 @@ fn a_script_opens_its_registries_in_order(rt: HostRuntime) -> Result<(), Fail> {
         0
     );
     assert_eq!(rt; opened.events.view().len(), 1, "the trigger");
+    assert_eq!(rt; opened.jobs, 7, "the last counts");
     Ok(())
 }

@@ -3,9 +3,9 @@ use Rattle.std.proofs.Common.{◌+◌, ℕ, Bool, true, false, List, [], ◌∷�
 use Rattle.std.specs.Prelude.{⊤}
 use Rattle.std.specs.List.{AllByRecursion}
 use Rattle.hr_base.specs.Bytes.{Text}
-use Rattle.hr_script.specs.Event.{cause_of, finish_of, step_of, stop_of, tags_of, take_of, trigger_of, word_of}
+use Rattle.hr_script.specs.Event.{cause_of, deliver_of, exec_of, finish_of, forge_of, row_of, settle_of, step_of, stop_of, sweep_of, tags_of, take_of, trigger_of, wait_of, word_of}
 use Rattle.hr_script.specs.Kind.{kind_in}
-use Rattle.hr_script.specs.Line.{arguments_of, break_of, image_of, index_of, line_meaning, manifest_of, meaning_of, orphan_of, unless_misplaced, where_read}
+use Rattle.hr_script.specs.Line.{arguments_of, break_of, image_of, index_of, jobs_of, line_meaning, manifest_of, meaning_of, orphan_of, unless_misplaced, where_read}
 use Rattle.hr_script.specs.Meaning.{Follows, Meaning, gives, ◌>>=◌}
 use Rattle.hr_script.specs.Planned.{change_of, fault_of}
 use Rattle.hr_script.specs.Progress.{at_start, is_misplaced, progress_after}
@@ -32,12 +32,20 @@ pub record OfEachKind (P : Line → Type 0) : Type 0 where
   pub broken : GivesOnly P break_of
   pub fault : (lands : Bool) → GivesOnly P (fault_of lands)
   pub change : GivesOnly P change_of
+  pub jobs : GivesOnly P jobs_of
   pub trigger : GivesOnly P trigger_of
   pub take : GivesOnly P take_of
   pub step : GivesOnly P step_of
+  pub settle : GivesOnly P settle_of
   pub stop : GivesOnly P stop_of
+  pub deliver : GivesOnly P deliver_of
+  pub forge : GivesOnly P forge_of
+  pub wait : GivesOnly P wait_of
+  pub sweep : GivesOnly P sweep_of
   pub finish : GivesOnly P finish_of
   pub tags : GivesOnly P tags_of
+  pub row : GivesOnly P row_of
+  pub exec : GivesOnly P exec_of
   pub word : GivesOnly P word_of
   pub cause : GivesOnly P cause_of
 
@@ -59,12 +67,20 @@ kind_holds P each kinds.Break words l is = each.broken words l is
 kind_holds P each kinds.Fault words l is = each.fault false words l is
 kind_holds P each kinds.Lands words l is = each.fault true words l is
 kind_holds P each kinds.Change words l is = each.change words l is
+kind_holds P each kinds.Jobs words l is = each.jobs words l is
 kind_holds P each kinds.Trigger words l is = each.trigger words l is
 kind_holds P each kinds.Take words l is = each.take words l is
 kind_holds P each kinds.Step words l is = each.step words l is
+kind_holds P each kinds.Settle words l is = each.settle words l is
 kind_holds P each kinds.Stop words l is = each.stop words l is
+kind_holds P each kinds.Deliver words l is = each.deliver words l is
+kind_holds P each kinds.Forge words l is = each.forge words l is
+kind_holds P each kinds.Wait words l is = each.wait words l is
+kind_holds P each kinds.Sweep words l is = each.sweep words l is
 kind_holds P each kinds.Finish words l is = each.finish words l is
 kind_holds P each kinds.Tags words l is = each.tags words l is
+kind_holds P each kinds.Row words l is = each.row words l is
+kind_holds P each kinds.Exec words l is = each.exec words l is
 kind_holds P each kinds.Word words l is = each.word words l is
 kind_holds P each kinds.Cause words l is = each.cause words l is
 kind_holds P each kinds.Later words l is = cc is

@@ -8,7 +8,7 @@ use Rattle.hr_event.specs.declared.event.Event.TheVariants as event
 use Rattle.hr_script.specs.declared.kind.Kind.{Kind}
 use Rattle.hr_script.specs.declared.kind.Kind.TheVariants as kinds
 use Rattle.hr_script.specs.declared.line.Line.{Line}
-use Rattle.hr_script.specs.declared.line.Line.TheVariants.{Image, Index, Orphan, Break, Fault, Change, Event}
+use Rattle.hr_script.specs.declared.line.Line.TheVariants.{Image, Index, Orphan, Break, Fault, Change, Jobs, Event}
 use Rattle.hr_script.specs.declared.reading.Lines.{Lines}
 use Rattle.hr_script.specs.declared.refusal.Why.{Why}
 use Rattle.hr_script.specs.declared.refusal.Why.TheVariants as why
@@ -16,14 +16,15 @@ use Rattle.hr_text.proofs.HexLaws.{spelled_once}
 use Rattle.hr_text.proofs.NumberLaws.{one_number}
 use Rattle.hr_script.specs.declared.progress.Progress.{Progress}
 use Rattle.hr_script.specs.Kind.{kind_in, kind_of}
-use Rattle.hr_script.specs.Event.{cause_of, finish_of, only_job, step_of, stop_of, tags_of, take_of, trigger_of, word_of}
-use Rattle.hr_script.specs.Line.{arguments_of, break_of, image_of, index_of, line_meaning, manifest_of, meaning_of, orphan_of, unless_misplaced, where_read}
+use Rattle.hr_script.specs.Event.{cause_of, deliver_of, exec_of, finish_of, forge_of, only_job, only_number, row_of, settle_of, step_of, stop_of, sweep_of, tags_of, take_of, trigger_of, wait_of, word_of}
+use Rattle.hr_script.specs.Line.{arguments_of, break_of, image_of, index_of, jobs_of, line_meaning, manifest_of, meaning_of, orphan_of, unless_misplaced, where_read}
 use Rattle.hr_script.specs.Meaning.{Follows, Meaning, each, stands_for, ◌>>=◌}
 use Rattle.hr_script.specs.Planned.{change_of, fault_of}
 use Rattle.hr_script.specs.Reading.{AreRead, GoesOn, IsReading, nothing, stopped, with_line}
 use Rattle.hr_script.specs.Progress.{at_start, is_misplaced, progress_after}
+use Rattle.hr_script.specs.Status.{status_in, status_named}
 use Rattle.hr_script.specs.Text.{is_read, lines_of, words_of}
-use Rattle.hr_script.specs.Word.{IsLayerWord, IsMedia, IsNameWord, IsOperation, IsRegistry, IsRevision, IsSmallNumber, IsTagWord, job_in, lane_in, lane_numbered, layer_in, media_in, name_in, operation_in, policy_in, registry_in, revision_in, small_in, tag_in}
+use Rattle.hr_script.specs.Word.{IsJobCount, IsLayerWord, IsMedia, IsNameWord, IsOperation, IsRegistry, IsRevision, IsSeconds, IsSmallNumber, IsTagWord, job_count_in, job_in, lane_in, lane_numbered, layer_in, media_in, name_in, operation_in, policy_in, registry_in, revision_in, seconds_in, small_in, tag_in}
 
 -- two right answers are equal, and there is no want of one
 pub record IsOne {A : Type 0} (meaning : Meaning A) : Type 0 where
@@ -85,6 +86,15 @@ one_job word = one_value (λ (job : JobNo). IsSmallNumber word job.0) why.Number
 one_revision : (word : Text) → IsOne (revision_in word)
 one_revision word = one_value (IsRevision word) why.Number (λ one other h k. one_number word one other h.number.written k.number.written)
 
+one_job_count : (word : Text) → IsOne (job_count_in word)
+one_job_count word = one_value (IsJobCount word) why.Number (λ one other h k. one_number word one other h.number.written k.number.written)
+
+one_seconds : (word : Text) → IsOne (seconds_in word)
+one_seconds word = one_value (IsSeconds word) why.Number (λ one other h k. one_number word one other h.number.written k.number.written)
+
+one_status : (word : Text) → IsOne (status_in word)
+one_status word = one_equal (status_named word)
+
 one_operation : (word : Text) → IsOne (operation_in word)
 one_operation word = one_value (IsOperation word) why.Number (λ one other h k. one_number word one other h.number.written k.number.written)
 
@@ -143,6 +153,10 @@ one_change (lane ∷ reg ∷ op ∷ repo ∷ tag ∷ to ∷ []) =
     one_chain (lane_in lane) _ (one_lane lane) (λ a. one_chain (registry_in reg) _ (one_registry reg) (λ b. one_chain (operation_in op) _ (one_operation op) (λ d. one_chain (name_in repo) _ (one_name repo) (λ e. one_chain (tag_in tag) _ (one_tag tag) (λ f. one_chain (tag_in to) _ (one_tag to) (λ g. one_equal (Ok (Change a b d e f g))))))))
 one_change _ = one_equal (Err why.Count)
 
+one_jobs : (words : List Text) → IsOne (jobs_of words)
+one_jobs (jobs ∷ []) = one_chain (job_count_in jobs) _ (one_job_count jobs) (λ a. one_equal (Ok (Jobs a)))
+one_jobs _ = one_equal (Err why.Count)
+
 one_trigger : (words : List Text) → IsOne (trigger_of words)
 one_trigger (policy ∷ []) = one_chain (policy_in policy) _ (one_policy policy) (λ a. one_equal (Ok (Event (event.Trigger a))))
 one_trigger _ = one_equal (Err why.Count)
@@ -167,11 +181,39 @@ one_only_job : (words : List Text) → IsOne (only_job words)
 one_only_job (job ∷ []) = one_job job
 one_only_job _ = one_equal (Err why.Count)
 
+one_only_number : (words : List Text) → IsOne (only_number words)
+one_only_number (number ∷ []) = one_small number
+one_only_number _ = one_equal (Err why.Count)
+
 one_step : (words : List Text) → IsOne (step_of words)
 one_step words = one_chain (only_job words) _ (one_only_job words) (λ a. one_equal (Ok (Event (event.Step a))))
 
 one_stop : (words : List Text) → IsOne (stop_of words)
 one_stop words = one_chain (only_job words) _ (one_only_job words) (λ a. one_equal (Ok (Event (event.Stop a))))
+
+one_settle : (words : List Text) → IsOne (settle_of words)
+one_settle words = one_chain (only_job words) _ (one_only_job words) (λ a. one_equal (Ok (Event (event.Settle a))))
+
+one_deliver : (words : List Text) → IsOne (deliver_of words)
+one_deliver words = one_chain (only_number words) _ (one_only_number words) (λ a. one_equal (Ok (Event (event.Deliver a))))
+
+one_forge : (words : List Text) → IsOne (forge_of words)
+one_forge (job ∷ rev ∷ status ∷ []) =
+    one_chain (job_in job) _ (one_job job) (λ a. one_chain (revision_in rev) _ (one_revision rev) (λ b. one_chain (status_in status) _ (one_status status) (λ d. one_equal (Ok (Event (event.Forge (record { job = a; rev = b; status = d })))))))
+one_forge _ = one_equal (Err why.Count)
+
+one_wait : (words : List Text) → IsOne (wait_of words)
+one_wait (seconds ∷ []) = one_chain (seconds_in seconds) _ (one_seconds seconds) (λ a. one_equal (Ok (Event (event.Wait a))))
+one_wait _ = one_equal (Err why.Count)
+
+one_sweep : (words : List Text) → IsOne (sweep_of words)
+one_sweep words = one_chain (only_number words) _ (one_only_number words) (λ a. one_equal (Ok (Event (event.Sweep a))))
+
+one_row : (words : List Text) → IsOne (row_of words)
+one_row words = one_chain (only_job words) _ (one_only_job words) (λ a. one_equal (Ok (Event (event.Row a))))
+
+one_exec : (words : List Text) → IsOne (exec_of words)
+one_exec words = one_chain (only_number words) _ (one_only_number words) (λ a. one_equal (Ok (Event (event.Exec (record { 0 = a })))))
 
 one_cause : (words : List Text) → IsOne (cause_of words)
 one_cause words = one_chain (only_job words) _ (one_only_job words) (λ a. one_equal (Ok (Event (event.CauseOf a))))
@@ -185,12 +227,20 @@ one_arguments kinds.Break words = one_break words
 one_arguments kinds.Fault words = one_fault false words
 one_arguments kinds.Lands words = one_fault true words
 one_arguments kinds.Change words = one_change words
+one_arguments kinds.Jobs words = one_jobs words
 one_arguments kinds.Trigger words = one_trigger words
 one_arguments kinds.Take words = one_take words
 one_arguments kinds.Step words = one_step words
+one_arguments kinds.Settle words = one_settle words
 one_arguments kinds.Stop words = one_stop words
+one_arguments kinds.Deliver words = one_deliver words
+one_arguments kinds.Forge words = one_forge words
+one_arguments kinds.Wait words = one_wait words
+one_arguments kinds.Sweep words = one_sweep words
 one_arguments kinds.Finish words = one_finish words
 one_arguments kinds.Tags words = one_tags words
+one_arguments kinds.Row words = one_row words
+one_arguments kinds.Exec words = one_exec words
 one_arguments kinds.Word words = one_word words
 one_arguments kinds.Cause words = one_cause words
 one_arguments kinds.Later words = one_equal (Err why.NotYet)

@@ -5,5 +5,6 @@ pub mod Meaning
 pub mod Planned
 pub mod Progress
 pub mod Reading
+pub mod Status
 pub mod Text
 pub mod Word

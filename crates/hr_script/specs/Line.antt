@@ -5,16 +5,16 @@ use Rattle.hr_base.specs.Bytes.{Text}
 use Rattle.hr_script.specs.declared.kind.Kind.{Kind}
 use Rattle.hr_script.specs.declared.kind.Kind.TheVariants as kinds
 use Rattle.hr_script.specs.declared.line.Line.{Line}
-use Rattle.hr_script.specs.declared.line.Line.TheVariants.{Image, Index, Orphan, Manifest, Break}
+use Rattle.hr_script.specs.declared.line.Line.TheVariants.{Image, Index, Orphan, Manifest, Break, Jobs}
 use Rattle.hr_script.specs.declared.refusal.Why.TheVariants as why
 use Rattle.hr_script.specs.declared.progress.Progress.{Progress}
-use Rattle.hr_script.specs.Event.{cause_of, finish_of, step_of, stop_of, tags_of, take_of, trigger_of, word_of}
+use Rattle.hr_script.specs.Event.{cause_of, deliver_of, exec_of, finish_of, forge_of, row_of, settle_of, step_of, stop_of, sweep_of, tags_of, take_of, trigger_of, wait_of, word_of}
 use Rattle.hr_script.specs.Kind.{kind_in}
 use Rattle.hr_script.specs.Meaning.{Meaning, gives, refuses, each, ◌>>=◌}
 use Rattle.hr_script.specs.Planned.{change_of, fault_of}
 use Rattle.hr_script.specs.Progress.{is_misplaced}
 use Rattle.hr_script.specs.Text.{is_read, words_of}
-use Rattle.hr_script.specs.Word.{registry_in, name_in, tag_in, layer_in, media_in}
+use Rattle.hr_script.specs.Word.{registry_in, name_in, tag_in, job_count_in, layer_in, media_in}
 
 -- what the words behind `image` mean
 abbrev pub image_of : List Text → Meaning Line
@@ -65,6 +65,13 @@ break_of (reg ∷ repo ∷ honest ∷ stored ∷ []) = do
   gives (Break reg repo honest stored)
 break_of _ = refuses why.Count
 
+-- what the words behind `jobs` mean
+abbrev pub jobs_of : List Text → Meaning Line
+jobs_of (jobs ∷ []) = do
+  jobs ← job_count_in jobs
+  gives (Jobs jobs)
+jobs_of _ = refuses why.Count
+
 -- what the words behind the first one mean in a line of this kind
 abbrev pub arguments_of : Kind → List Text → Meaning Line
 arguments_of kinds.Image words = image_of words
@@ -75,12 +82,20 @@ arguments_of kinds.Break words = break_of words
 arguments_of kinds.Fault words = fault_of false words
 arguments_of kinds.Lands words = fault_of true words
 arguments_of kinds.Change words = change_of words
+arguments_of kinds.Jobs words = jobs_of words
 arguments_of kinds.Trigger words = trigger_of words
 arguments_of kinds.Take words = take_of words
 arguments_of kinds.Step words = step_of words
+arguments_of kinds.Settle words = settle_of words
 arguments_of kinds.Stop words = stop_of words
+arguments_of kinds.Deliver words = deliver_of words
+arguments_of kinds.Forge words = forge_of words
+arguments_of kinds.Wait words = wait_of words
+arguments_of kinds.Sweep words = sweep_of words
 arguments_of kinds.Finish words = finish_of words
 arguments_of kinds.Tags words = tags_of words
+arguments_of kinds.Row words = row_of words
+arguments_of kinds.Exec words = exec_of words
 arguments_of kinds.Word words = word_of words
 arguments_of kinds.Cause words = cause_of words
 arguments_of kinds.Later words = refuses why.NotYet

@@ -19,6 +19,6 @@ at_start = record { running = false }
 abbrev pub progress_after : Progress → Line → Progress
 progress_after progress line = record { running = progress.running || is_event line }
 
--- whether a line of this kind may not stand there, since it sets a registry up behind an event
+-- whether a line of this kind may not stand there, since it sets something up behind an event
 abbrev pub is_misplaced : Progress → Kind → Bool
 is_misplaced progress kind = progress.running && is_setup kind

@@ -36,6 +36,17 @@ pub record IsOperation (word : Text) (op : ℕ) : Type 0 where
   pub number : IsSmallNumber word op
   pub some : 1 ≤ op
 
+-- the word writes how many jobs there may be: 1 to 262,144
+pub record IsJobCount (word : Text) (jobs : ℕ) : Type 0 where
+  pub number : IsSmallNumber word jobs
+  pub some : 1 ≤ jobs
+  pub few : jobs ≤ 262144
+
+-- the word writes a number of seconds that may pass: 1,000,000,000 at most
+pub record IsSeconds (word : Text) (seconds : ℕ) : Type 0 where
+  pub number : IsSmallNumber word seconds
+  pub few : seconds ≤ 1000000000
+
 -- the word is this name of a repository, of at most 255 bytes
 pub record IsNameWord (word : Text) (name : RepoName) : Type 0 where
   pub same : name ≡ word
@@ -76,6 +87,14 @@ revision_in word = stands_for (IsRevision word) why.Number
 -- what a word means as the number of an operation
 abbrev pub operation_in : Text → Meaning ℕ
 operation_in word = stands_for (IsOperation word) why.Number
+
+-- what a word means as a number of jobs
+abbrev pub job_count_in : Text → Meaning ℕ
+job_count_in word = stands_for (IsJobCount word) why.Number
+
+-- what a word means as a number of seconds
+abbrev pub seconds_in : Text → Meaning ℕ
+seconds_in word = stands_for (IsSeconds word) why.Number
 
 -- what a word means as any number below 2^32
 abbrev pub small_in : Text → Meaning ℕ

@@ -1,12 +1,13 @@
 //! What the words behind the first one of a line mean, by the line's kind. (Our own.)
 ghost use Rattle.std.specs.Option.{option_copied};
-ghost use Rattle.hr_script.specs.Line.{arguments_of, break_of, image_of, index_of, manifest_of, meaning_of, orphan_of};
+ghost use Rattle.hr_script.specs.Line.{arguments_of, break_of, image_of, index_of, jobs_of, manifest_of, meaning_of, orphan_of};
 ghost use Rattle.hr_script.specs.Meaning.{Answers, each};
 ghost use Rattle.hr_script.specs.Text.{words_left, words_of};
 ghost use Rattle.hr_script.specs.Word.{layer_in, tag_in};
 
 use crate::event::{
-    read_cause, read_finish, read_step, read_stop, read_tags, read_take, read_trigger, read_word,
+    read_cause, read_deliver, read_exec, read_finish, read_forge, read_row, read_settle, read_step,
+    read_stop, read_sweep, read_tags, read_take, read_trigger, read_wait, read_word,
 };
 use crate::kind::Kind;
 use crate::line::Line;
@@ -14,7 +15,7 @@ use crate::planned::{read_change, read_fault};
 use crate::progress::Progress;
 use crate::refusal::{Refused, Why};
 use crate::split::{end_words, split_word, take_word};
-use crate::word::{read_layer, read_media, read_name, read_registry, read_tag};
+use crate::word::{read_job_count, read_layer, read_media, read_name, read_registry, read_tag};
 use hr_base::{Bytes, List};
 use hr_name::Tag;
 use std::alloc::Global;
@@ -44,12 +45,20 @@ fn read_arguments(alloc: Global, kind: Kind, words: Option<&[u8]>) -> Result<Lin
         Kind::Fault => read_fault(words, false),
         Kind::Lands => read_fault(words, true),
         Kind::Change => read_change(alloc, words),
+        Kind::Jobs => read_jobs(words),
         Kind::Trigger => read_trigger(words),
         Kind::Take => read_take(words),
         Kind::Step => read_step(words),
+        Kind::Settle => read_settle(words),
         Kind::Stop => read_stop(words),
+        Kind::Deliver => read_deliver(words),
+        Kind::Forge => read_forge(words),
+        Kind::Wait => read_wait(words),
+        Kind::Sweep => read_sweep(words),
         Kind::Finish => read_finish(words),
         Kind::Tags => read_tags(words),
+        Kind::Row => read_row(words),
+        Kind::Exec => read_exec(words),
         Kind::Word => read_word(words),
         Kind::Cause => read_cause(words),
         Kind::Later => Err(Refused::Bad(Why::NotYet)),
@@ -129,6 +138,15 @@ fn read_break(alloc: Global, words: Option<&[u8]>) -> Result<Line, Refused>
         honest: read_layer(alloc, honest)?,
         stored: read_layer(alloc, stored)?,
     })
+}
+
+fn read_jobs(words: Option<&[u8]>) -> Result<Line, Refused>
+    ensures { Answers (jobs_of (words_left (option_copied words.entry))) result }
+{
+    let (jobs, words) = take_word(words)?;
+    end_words(words)?;
+    let jobs = read_job_count(jobs)?;
+    Ok(Line::Jobs { jobs })
 }
 
 // The layers that the words left of a line write.

@@ -1,6 +1,6 @@
 //! The first words of lines. (Our own.)
 ghost use Rattle.std.specs.Prelude.{◌≡◌};
-ghost use Rattle.hr_script.specs.Kind.{event_kind, is_later, is_one_of, is_setup, kind_of, later_events, later_setup, setup_kind};
+ghost use Rattle.hr_script.specs.Kind.{event_kind, is_later, is_one_of, is_setup, kind_of, later_events, later_setup, question_kind, setup_kind};
 
 use crate::refusal::Why;
 
@@ -15,12 +15,20 @@ pub(crate) enum Kind {
     Fault,
     Lands,
     Change,
+    Jobs,
     Trigger,
     Take,
     Step,
+    Settle,
     Stop,
+    Deliver,
+    Forge,
+    Wait,
+    Sweep,
     Finish,
     Tags,
+    Row,
+    Exec,
     Word,
     Cause,
     /// Lines of the language that are not read yet.
@@ -38,19 +46,22 @@ impl Kind {
         if let Some(kind) = event_kind(word) {
             return Ok(kind);
         }
+        if let Some(kind) = question_kind(word) {
+            return Ok(kind);
+        }
         if is_later(word) {
             return Ok(Kind::Later);
         }
         Err(Why::Word)
     }
 
-    /// Whether such a line sets a registry up, and so stands before the first event.
+    /// Whether such a line sets something up, and so stands before the first event.
     pub(crate) fn is_setup(self) -> bool
         ensures { result ≡ is_setup self }
     {
         match self {
             Kind::Image | Kind::Index | Kind::Orphan | Kind::Manifest => true,
-            Kind::Break | Kind::Fault | Kind::Lands | Kind::Change => true,
+            Kind::Break | Kind::Fault | Kind::Lands | Kind::Change | Kind::Jobs => true,
             _ => false,
         }
     }
@@ -84,10 +95,13 @@ fn setup_kind(word: &[u8]) -> Option<Kind>
     if word == b"change".as_slice() {
         return Some(Kind::Change);
     }
+    if word == b"jobs".as_slice() {
+        return Some(Kind::Jobs);
+    }
     None
 }
 
-// The kind of the events that a word begins.
+// The kind of the events that a word begins, where they do something.
 fn event_kind(word: &[u8]) -> Option<Kind>
     ensures { result ≡ event_kind word.now }
 {
@@ -100,14 +114,42 @@ fn event_kind(word: &[u8]) -> Option<Kind>
     if word == b"step".as_slice() {
         return Some(Kind::Step);
     }
+    if word == b"settle".as_slice() {
+        return Some(Kind::Settle);
+    }
     if word == b"stop".as_slice() {
         return Some(Kind::Stop);
+    }
+    if word == b"deliver".as_slice() {
+        return Some(Kind::Deliver);
+    }
+    if word == b"forge".as_slice() {
+        return Some(Kind::Forge);
+    }
+    if word == b"wait".as_slice() {
+        return Some(Kind::Wait);
+    }
+    if word == b"sweep".as_slice() {
+        return Some(Kind::Sweep);
     }
     if word == b"finish".as_slice() {
         return Some(Kind::Finish);
     }
+    None
+}
+
+// The kind of the events that a word begins, where they ask for something.
+fn question_kind(word: &[u8]) -> Option<Kind>
+    ensures { result ≡ question_kind word.now }
+{
     if word == b"tags".as_slice() {
         return Some(Kind::Tags);
+    }
+    if word == b"row".as_slice() {
+        return Some(Kind::Row);
+    }
+    if word == b"exec".as_slice() {
+        return Some(Kind::Exec);
     }
     if word == b"word".as_slice() {
         return Some(Kind::Word);
@@ -130,7 +172,6 @@ fn is_later_setup(word: &[u8]) -> bool
     ensures { result ≡ is_one_of later_setup word.now }
 {
     word == b"lanes".as_slice()
-        || word == b"jobs".as_slice()
         || word == b"policy".as_slice()
         || word == b"schedule".as_slice()
         || word == b"label".as_slice()
@@ -142,11 +183,4 @@ fn is_later_event(word: &[u8]) -> bool
     ensures { result ≡ is_one_of later_events word.now }
 {
     word == b"due".as_slice()
-        || word == b"settle".as_slice()
-        || word == b"deliver".as_slice()
-        || word == b"forge".as_slice()
-        || word == b"wait".as_slice()
-        || word == b"sweep".as_slice()
-        || word == b"row".as_slice()
-        || word == b"exec".as_slice()
 }

@@ -11,6 +11,7 @@ mod progress;
 mod reading;
 mod refusal;
 mod split;
+mod status;
 #[cfg(test)]
 mod tests;
 mod word;

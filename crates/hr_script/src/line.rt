@@ -65,8 +65,12 @@ pub enum Line {
         tag: Tag,
         to: Tag,
     },
-    /// An event: today `Trigger`, `Take`, `Step`, `Stop`, `Finish`, `Tags`, `Word` or `CauseOf`. The
-    /// number of a revision is 0 to 3.
+    /// There may be so many jobs, 1 to 262,144.
+    Jobs {
+        jobs: u32,
+    },
+    /// An event: today any but `Due`. The number of a revision is 0 to 3, and a wait is of at most
+    /// 1,000,000,000 seconds.
     Event(Event),
 }
 

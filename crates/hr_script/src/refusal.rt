@@ -21,7 +21,7 @@ pub enum Why {
     Tag,
     /// A word is not pairs of lower-case hexadecimal digits, at least one.
     Hex,
-    /// A media type has a byte that JSON escapes.
+    /// A media type has a byte that JSON escapes, or a word names no status.
     Policy,
     /// It has a word of the language for what is not built yet. Today that is a first word, or
     /// another lane than 0.

@@ -14,16 +14,18 @@ fn read(alloc: Global, text: &[u8]) -> Result<Lines, Fail> {
 fn each_kind_of_line_is_read(rt: HostRuntime) -> Result<(), Fail> {
     let text = b"# one\nimage 8 library/app v1.2 7b7d 00ff\n\nindex 1 app all a _b\norphan 2 app\n\
         manifest 1 app t m {\"a\": 1,  \"b\":2 }\nbreak 1 app 00ff 7b7d\nfault 0 2 1\n\
-        lands 0 2 4294967295\nchange 0 1 3 app all new\ntrigger 4294967295\ntake\nstep 1\nstop 0\n\
-        finish\ntags 8\nword 4294967295 3\ncause 1";
+        lands 0 2 4294967295\nchange 0 1 3 app all new\njobs 1\njobs 262144\ntrigger 4294967295\n\
+        take\nstep 1\nsettle 4294967295\nstop 0\ndeliver 0\nforge 0 3 Pending\n\
+        forge 4294967295 0 Success\nwait 1000000000\nsweep 4294967295\nfinish\ntags 8\nrow 0\n\
+        exec 4294967295\nword 4294967295 3\ncause 1";
     let Lines { lines, fault } = read(rt.alloc(), text)?;
     assert_eq!(rt; fault, None);
-    assert_eq!(rt; lines.view().len(), 16);
+    assert_eq!(rt; lines.view().len(), 26);
     Ok(())
 }
 
 // Why each of these texts is refused, and at which line.
-fn refusals() -> [(&'static [u8], u32, Why); 72] {
+fn refusals() -> [(&'static [u8], u32, Why); 97] {
     [
         (b"images 1 app t", 1, Why::Word),
         (b"Image 1 app t", 1, Why::Word),
@@ -97,6 +99,31 @@ fn refusals() -> [(&'static [u8], u32, Why); 72] {
         (b"orphan 1 app 7b\r\n", 1, Why::Hex),
         (b"manifest 1 app t \"m x", 1, Why::Policy),
         (b"manifest 1 app -t \\m x", 1, Why::Tag),
+        (b"finish\njobs x", 2, Why::Order),
+        (b"jobs", 1, Why::Count),
+        (b"jobs 0 1", 1, Why::Count),
+        (b"jobs 0", 1, Why::Number),
+        (b"jobs 262145", 1, Why::Number),
+        (b"settle", 1, Why::Count),
+        (b"deliver 1 x", 1, Why::Count),
+        (b"forge x 9", 1, Why::Count),
+        (b"wait x x", 1, Why::Count),
+        (b"sweep 1 ", 1, Why::Count),
+        (b"row", 1, Why::Count),
+        (b"exec 1 1", 1, Why::Count),
+        (b"settle x", 1, Why::Number),
+        (b"deliver 4294967296", 1, Why::Number),
+        (b"sweep 01", 1, Why::Number),
+        (b"row +1", 1, Why::Number),
+        (b"exec 4294967296", 1, Why::Number),
+        (b"wait 1000000001", 1, Why::Number),
+        (b"wait ", 1, Why::Number),
+        (b"forge x 9 no", 1, Why::Number),
+        (b"forge 1 4 no", 1, Why::Number),
+        (b"forge 1 0 running", 1, Why::Policy),
+        (b"forge 1 3 Unopened", 1, Why::Policy),
+        (b"forge 1 0 ", 1, Why::Policy),
+        (b"forge 1 0 Succeed", 1, Why::Policy),
     ]
 }
 

@@ -2,7 +2,7 @@
 //! Distribution 1.1, "Pulling manifests".)
 ghost use Rattle.std.specs.Prelude.{◌≡◌, IfSome, IfNone, ℕ};
 ghost use Rattle.hr_script.specs.Meaning.{Answers};
-ghost use Rattle.hr_script.specs.Word.{IsSmallNumber, job_in, lane_in, lane_numbered, layer_in, media_in, name_in, operation_in, policy_in, registry_in, revision_in, small_in, tag_in};
+ghost use Rattle.hr_script.specs.Word.{IsSmallNumber, job_count_in, job_in, lane_in, lane_numbered, layer_in, media_in, name_in, operation_in, policy_in, registry_in, revision_in, seconds_in, small_in, tag_in};
 
 use crate::refusal::{Refused, Why};
 use hr_base::{Bytes, JobNo, Memory, PolicyNo, RegNo};
@@ -61,6 +61,26 @@ pub(crate) fn read_revision(word: &[u8]) -> Result<u8, Refused>
     }
 }
 
+/// How many jobs there may be, 1 to 262,144.
+pub(crate) fn read_job_count(word: &[u8]) -> Result<u32, Refused>
+    ensures { Answers (job_count_in word.now) result }
+{
+    match number_in(word) {
+        Some(number) if 1 <= number && number <= 262_144 => Ok(number),
+        _ => Err(Refused::Bad(Why::Number)),
+    }
+}
+
+/// How many seconds may pass at once, 1,000,000,000 at most.
+pub(crate) fn read_seconds(word: &[u8]) -> Result<u32, Refused>
+    ensures { Answers (seconds_in word.now) result }
+{
+    match number_in(word) {
+        Some(number) if number <= 1_000_000_000 => Ok(number),
+        _ => Err(Refused::Bad(Why::Number)),
+    }
+}
+
 /// The number of an operation, from 1.
 pub(crate) fn read_operation(word: &[u8]) -> Result<u32, Refused>
     ensures { Answers (operation_in word.now) result }
@@ -89,8 +109,8 @@ fn lane_numbered(number: u32) -> Result<u32, Why>
     if number == 0 { Ok(0) } else { Err(Why::NotYet) }
 }
 
-// Any number below 2^32.
-fn read_small(word: &[u8]) -> Result<u32, Refused>
+/// Any number below 2^32.
+pub(crate) fn read_small(word: &[u8]) -> Result<u32, Refused>
     ensures { Answers (small_in word.now) result }
 {
     match number_in(word) {

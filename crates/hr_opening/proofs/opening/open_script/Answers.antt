@@ -1,5 +1,5 @@
 use Rattle.std.proofs.Common.{◌≡◌, ◌++◌, Ok, Err, length, take, drop, rules, ap, subst, ◌∙◌, arith}
-use Rattle.hr_opening.specs.Opening.{after_lines}
+use Rattle.hr_opening.specs.Opening.{after_lines, jobs_said, jobs_unsaid}
 use Rattle.hr_opening.specs.Setup.{Setups, no_setups, registries_of}
 use Rattle.hr_opening.proofs.TakenLemmas.{eight_at, kept_part, plain_start}
 use Rattle.hr_opening.proofs.opening.open_script.Goals as goal
@@ -27,6 +27,7 @@ returns-in-Ok-open_all c =
         opens = subst (λ (s : Setups). after_lines s c.args.lines ≡ Ok new) none told.setups;
         regs = c.in-Ok-open_all.ensures ∙ ap registries_of same;
         events = told.events;
+        jobs = c.find_jobs-jobs.ensures ∙ ap (jobs_said jobs_unsaid) c.view.ensures;
       };
       reference = λ number e. cc e;
     }

@@ -1,0 +1,13 @@
+use Rattle.std.proofs.Common.{Err, refl}
+use Rattle.std.specs.Option.{option_copied}
+use Rattle.std.proofs.lemmas.Result.{err_from_is_err_and}
+use Rattle.hr_script.specs.Event.{only_number, sweep_of}
+use Rattle.hr_script.specs.Text.{words_left}
+use Rattle.hr_script.proofs.MeaningLemmas.{refused, unless_memory}
+use Rattle.hr_script.proofs.event.read_sweep.Goals as goal
+
+pub returns-in_err-keep : goal.returns-in_err-keep
+returns-in_err-keep c =
+    let p = err_from_is_err_and c.from_residual.result c.from_residual.ensures.1 in
+    rw (p.1, p.2)
+    (unless_memory (sweep_of (words_left (option_copied c.args.words))) c.in_err-keep.field-0.0 (λ why is. (Err why, refused (only_number (words_left (option_copied c.args.words))) c.in_err-keep.field-0.0 why is c.in_err-keep.ensures, refl)))
