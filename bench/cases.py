@@ -10,9 +10,11 @@ The form of a case stands at the head of crates/hr_cases/src/main.rt, and the fo
     sent LENGTH [TEXT]                  the text that was sent
     faults N M L                        of the input, of the output and of the tree
     entry JOB.REV WORD ..               `show journal`, and what a task does
-    hook JOB.REV STATUS                 `show hooks`, of the lane
-    stop JOB.REV STATUS                 `show hooks`, of stops
-    word JOB MARK                       `show words`
+    hook JOB.REV STATUS                 `show hooks`, the first to be emitted first
+    word JOB.REV MARK                   `show words`, of each revision that was opened
+    execution E STATUS total ..         `show rows`, as `exec E` tells it, with the lines behind it
+    row JOB.REV STATUS
+    received JOB.REV STATUS             the hooks of that row, the first to be received first
     cause WORD ..                       `show causes`
     tag REG REPO TAG DIGEST             `show tags`, and of registry 2 behind a task
     listed REPO TAG LABEL ..            what registry 2 lists behind a task
@@ -39,7 +41,8 @@ import config_cases
 import lane_cases
 import model
 from compare import Maker
-from lane_model import entry_text
+from core_model import Board
+from lane_model import Connection, Lane, Task, entry_text
 from model import plain
 
 HELLO = b"image 1 library/hello v1 7b7d 7b7d\ntrigger 1\nfinish\ntags 2\n"
@@ -110,7 +113,7 @@ class Case:
         for show in self.shows if ending.kept else []:
             said += SHOWS[show](ending.kept)
         for name, to, tag, how in self.tasks:
-            said += copied(ending, model.Job(1, name, to, [tag], how == "replace"))
+            said += copied(ending, Task(name, to, [tag], how == "replace"))
         return said
 
 
@@ -124,13 +127,15 @@ def tags(number, registry):
     return ["tag %d %s %s %s" % ((number,) + row) for row in registry.shown()]
 
 
-def copied(ending, job):
-    """What a job does between registries with what is kept in 1 and 2."""
+def copied(ending, task):
+    """What a task does between registries with what is kept in 1 and 2."""
     held = copy.deepcopy(ending.kept.registries[:2]) if ending.kept else [model.Registry(), model.Registry()]
-    lane = model.Lane(model.Connection(1, held[0]), model.Connection(2, held[1]))
-    lane.admit(job)
-    while job.number in lane.held:
-        lane.step(job.number)
+    board = Board()
+    board.move(1, 0, "Unopened", "Pending")
+    lane = Lane(Connection(1, held[0]), Connection(2, held[1]), board, lambda *hook: None)
+    lane.admit(1, 0, task)
+    while 1 in lane.held:
+        lane.step(1)
     said = journal(lane) + tags(2, held[1])
     for name, repository in sorted(held[1].repositories.items()):
         said += ["listed %s %s" % (name, tag) for tag in sorted(repository.tags)]
@@ -146,17 +151,26 @@ def all_tags(kept):
 
 
 def causes(kept):
-    ends = (about for _, (kind, *about) in kept.lane.journal if kind == "ended")
+    ends = (about for _, _, (kind, *about) in kept.core.lane.journal if kind == "ended")
     return ["cause " + cause for _, cause in ends if cause]
 
 
 def hooks(kept):
-    said = ["hook %d.0 %s" % hook for hook in kept.lane.hooks]
-    return said + ["stop %d.0 %s" % hook for hook in kept.stops]
+    return ["hook %d.%d %s" % hook for hook in kept.core.hooks]
 
 
 def words(kept):
-    return ["word %d %s" % (job.number, job.word) for job in kept.jobs]
+    return ["word %d.%d %s" % (*place, mark) for place, mark in sorted(kept.core.board.words.items())]
+
+
+def rows(kept):
+    said = []
+    for execution in kept.core.store.executions.values():
+        said.append(execution.text())
+        for row in execution.rows:
+            said.append("row %d.%d %s" % (row.job, row.revision, row.status))
+            said += ["received %d.%d %s" % (row.job, *hook) for hook in row.received]
+    return said
 
 
 def content(kept):
@@ -173,12 +187,13 @@ def content(kept):
 
 
 SHOWS = {
-    "journal": lambda kept: journal(kept.lane),
+    "journal": lambda kept: journal(kept.core.lane),
     "causes": causes,
     "tags": all_tags,
     "content": content,
     "hooks": hooks,
     "words": words,
+    "rows": rows,
 }
 
 
