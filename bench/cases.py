@@ -1,7 +1,8 @@
 #!/usr/bin/env python3
 """Writes the cases of `crates/hr_cases`, which that crate's program reads from its standard input,
 and what it must print for them. What it must print comes from `model.py` and `config_model.py` alone;
-the cases of lanes stand in `lane_cases.py`, and those of checks, patterns and digests in `config_cases.py`.
+the cases of lanes stand in `lane_cases.py`, those of queues, hooks and rows in `core_cases.py`, and those of
+checks, patterns and digests in `config_cases.py`.
 
 The form of a case stands at the head of crates/hr_cases/src/main.rt, and the form of an answer is:
 
@@ -38,6 +39,7 @@ import re
 import sys
 
 import config_cases
+import core_cases
 import lane_cases
 import model
 from compare import Maker
@@ -665,12 +667,16 @@ def of_lanes():
     return [case for group in lane_cases.GROUPS for case in group(Case)]
 
 
+def of_cores():
+    return [case for group in core_cases.GROUPS for case in group(Case)]
+
+
 def of_chance():
     """Scripts from a fixed seed."""
     chance = random.Random(20261)
     cases = []
     for at in range(1, 201):
-        show = ["journal", "hooks", "tags"] if at % 8 == 0 else ["causes", "words", "tags"]
+        show = ["journal", "hooks", "tags"] if at % 8 == 0 else ["causes", "words", "rows", "tags"]
         cases.append(Case("a script from a seed, %d" % at, Maker(chance).script(), show))
     return cases
 
@@ -698,7 +704,7 @@ def of_checks():
 
 GROUPS = [
     of_scripts, of_devices, of_executions, of_tags, of_contents, of_journals, of_graphs, of_manifests, of_causes,
-    of_tasks, of_lanes, of_chance, of_checks, config_cases.of_patterns, config_cases.of_digests,
+    of_tasks, of_lanes, of_cores, of_chance, of_checks, config_cases.of_patterns, config_cases.of_digests,
 ]
 
 
