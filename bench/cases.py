@@ -12,7 +12,8 @@ The form of a case stands at the head of crates/hr_cases/src/main.rt, and the fo
     faults N M L                        of the input, of the output and of the tree
     entry JOB.REV WORD ..               `show journal`, and what a task does
     hook JOB.REV STATUS                 `show hooks`, the first to be emitted first
-    word JOB.REV MARK                   `show words`, of each revision that was opened
+    word JOB.REV STATUS                 `show words`, of each job that is kept, its last revision that was
+                                        opened; those before it are at Error
     execution E STATUS total ..         `show rows`, as `exec E` tells it, with the lines behind it
     row JOB.REV STATUS
     received JOB.REV STATUS             the hooks of that row, the first to be received first
@@ -43,6 +44,7 @@ import core_cases
 import lane_cases
 import model
 from compare import Maker
+from core_check import current
 from core_model import Board
 from lane_model import Connection, Lane, Task, entry_text
 from model import plain
@@ -162,7 +164,8 @@ def hooks(kept):
 
 
 def words(kept):
-    return ["word %d.%d %s" % (*place, mark) for place, mark in sorted(kept.core.board.words.items())]
+    jobs = (row.job for execution in kept.core.store.executions.values() for row in execution.rows)
+    return ["word %d.%d %s" % (job, *current(kept.core.board, job)) for job in jobs]
 
 
 def rows(kept):
