@@ -1,7 +1,8 @@
 #!/usr/bin/env python3
 """Writes the cases of `crates/hr_cases`, which that crate's program reads from its standard input,
 and what it must print for them. What it must print comes from `model.py` and `config_model.py` alone;
-the cases of lanes stand in `lane_cases.py`, and those of checks, patterns and digests in `config_cases.py`.
+the cases of lanes stand in `lane_cases.py`, those of queues, hooks and rows in `core_cases.py`, and those of
+checks, patterns and digests in `config_cases.py`.
 
 The form of a case stands at the head of crates/hr_cases/src/main.rt, and the form of an answer is:
 
@@ -10,9 +11,12 @@ The form of a case stands at the head of crates/hr_cases/src/main.rt, and the fo
     sent LENGTH [TEXT]                  the text that was sent
     faults N M L                        of the input, of the output and of the tree
     entry JOB.REV WORD ..               `show journal`, and what a task does
-    hook JOB.REV STATUS                 `show hooks`, of the lane
-    stop JOB.REV STATUS                 `show hooks`, of stops
-    word JOB MARK                       `show words`
+    hook JOB.REV STATUS                 `show hooks`, the first to be emitted first
+    word JOB.REV STATUS                 `show words`, of each job that is kept, its last revision that was
+                                        opened; those before it are at Error
+    execution E STATUS total ..         `show rows`, as `exec E` tells it, with the lines behind it
+    row JOB.REV STATUS
+    received JOB.REV STATUS             the hooks of that row, the first to be received first
     cause WORD ..                       `show causes`
     tag REG REPO TAG DIGEST             `show tags`, and of registry 2 behind a task
     listed REPO TAG LABEL ..            what registry 2 lists behind a task
@@ -36,10 +40,13 @@ import re
 import sys
 
 import config_cases
+import core_cases
 import lane_cases
 import model
 from compare import Maker
-from lane_model import entry_text
+from core_check import current
+from core_model import Board
+from lane_model import Connection, Lane, Task, entry_text
 from model import plain
 
 HELLO = b"image 1 library/hello v1 7b7d 7b7d\ntrigger 1\nfinish\ntags 2\n"
@@ -110,7 +117,7 @@ class Case:
         for show in self.shows if ending.kept else []:
             said += SHOWS[show](ending.kept)
         for name, to, tag, how in self.tasks:
-            said += copied(ending, model.Job(1, name, to, [tag], how == "replace"))
+            said += copied(ending, Task(name, to, [tag], how == "replace"))
         return said
 
 
@@ -124,13 +131,15 @@ def tags(number, registry):
     return ["tag %d %s %s %s" % ((number,) + row) for row in registry.shown()]
 
 
-def copied(ending, job):
-    """What a job does between registries with what is kept in 1 and 2."""
+def copied(ending, task):
+    """What a task does between registries with what is kept in 1 and 2."""
     held = copy.deepcopy(ending.kept.registries[:2]) if ending.kept else [model.Registry(), model.Registry()]
-    lane = model.Lane(model.Connection(1, held[0]), model.Connection(2, held[1]))
-    lane.admit(job)
-    while job.number in lane.held:
-        lane.step(job.number)
+    board = Board()
+    board.move(1, 0, "Unopened", "Pending")
+    lane = Lane(Connection(1, held[0]), Connection(2, held[1]), board, lambda *hook: None)
+    lane.admit(1, 0, task)
+    while 1 in lane.held:
+        lane.step(1)
     said = journal(lane) + tags(2, held[1])
     for name, repository in sorted(held[1].repositories.items()):
         said += ["listed %s %s" % (name, tag) for tag in sorted(repository.tags)]
@@ -146,17 +155,27 @@ def all_tags(kept):
 
 
 def causes(kept):
-    ends = (about for _, (kind, *about) in kept.lane.journal if kind == "ended")
+    ends = (about for _, _, (kind, *about) in kept.core.lane.journal if kind == "ended")
     return ["cause " + cause for _, cause in ends if cause]
 
 
 def hooks(kept):
-    said = ["hook %d.0 %s" % hook for hook in kept.lane.hooks]
-    return said + ["stop %d.0 %s" % hook for hook in kept.stops]
+    return ["hook %d.%d %s" % hook for hook in kept.core.hooks]
 
 
 def words(kept):
-    return ["word %d %s" % (job.number, job.word) for job in kept.jobs]
+    jobs = (row.job for execution in kept.core.store.executions.values() for row in execution.rows)
+    return ["word %d.%d %s" % (job, *current(kept.core.board, job)) for job in jobs]
+
+
+def rows(kept):
+    said = []
+    for execution in kept.core.store.executions.values():
+        said.append(execution.text())
+        for row in execution.rows:
+            said.append("row %d.%d %s" % (row.job, row.revision, row.status))
+            said += ["received %d.%d %s" % (row.job, *hook) for hook in row.received]
+    return said
 
 
 def content(kept):
@@ -173,12 +192,13 @@ def content(kept):
 
 
 SHOWS = {
-    "journal": lambda kept: journal(kept.lane),
+    "journal": lambda kept: journal(kept.core.lane),
     "causes": causes,
     "tags": all_tags,
     "content": content,
     "hooks": hooks,
     "words": words,
+    "rows": rows,
 }
 
 
@@ -650,12 +670,16 @@ def of_lanes():
     return [case for group in lane_cases.GROUPS for case in group(Case)]
 
 
+def of_cores():
+    return [case for group in core_cases.GROUPS for case in group(Case)]
+
+
 def of_chance():
     """Scripts from a fixed seed."""
     chance = random.Random(20261)
     cases = []
     for at in range(1, 201):
-        show = ["journal", "hooks", "tags"] if at % 8 == 0 else ["causes", "words", "tags"]
+        show = ["journal", "hooks", "tags"] if at % 8 == 0 else ["causes", "words", "rows", "tags"]
         cases.append(Case("a script from a seed, %d" % at, Maker(chance).script(), show))
     return cases
 
@@ -683,7 +707,7 @@ def of_checks():
 
 GROUPS = [
     of_scripts, of_devices, of_executions, of_tags, of_contents, of_journals, of_graphs, of_manifests, of_causes,
-    of_tasks, of_lanes, of_chance, of_checks, config_cases.of_patterns, config_cases.of_digests,
+    of_tasks, of_lanes, of_cores, of_chance, of_checks, config_cases.of_patterns, config_cases.of_digests,
 ]
 
 

@@ -2,7 +2,7 @@
 """Compares the built program with a second one, `model.py`, on random scripts.
 
 A script stores images, indexes, orphans and odd manifests in registries 1 to 3, breaks blobs, plans
-faults and moves of tags, and has some events.
+faults and moves of tags, says at times how many jobs there may be, and has some events.
 Both programs must give the same text and the same status. Prints how often each status came, and
 every script on which they differ, and ends with 1 where there is one.
 
@@ -62,34 +62,52 @@ class Maker:
         return "change 0 %d %d %s %s %s" % (place[0], operation, place[1], tag, self.chance.choice(self.known[place]))
 
     def events(self):
-        """Some events. Steps come more than one at a time, mostly of jobs that are held."""
-        made, jobs, waiting, held, steps = [], 0, [], [], {}
+        """Some events. Steps come more than one at a time, mostly of jobs that are held, and jobs are settled
+        mostly when they have ended."""
+        made, jobs, waiting, held, ended = [], 0, [], {}, []
         tasks = len([name for (registry, name), tags in self.known.items() if registry == 1 and tags])
-        for _ in range(self.chance.randint(2, 24)):
-            kind = "trigger" if not made else self.chance.choice(["trigger"] + ["take"] * 5 + ["step"] * 14 + [
-                "stop", "finish", "tags", "word", "cause", "policy"])
+        for _ in range(self.chance.randint(2, 30)):
+            kind = "trigger" if not made else self.chance.choice(["trigger"] + ["take"] * 6 + ["step"] * 14 + [
+                "settle"] * 4 + ["wait"] * 2 + ["deliver"] * 4 + ["stop", "finish", "tags", "word", "cause", "policy", "forge",
+                "sweep", "row", "exec"])
             if kind == "step" and not held and self.chance.random() < 0.9:
-                kind = "take" if waiting else "trigger"
-            job, count = self.chance.choice(held * 20 + list(range(1, jobs + 2))), self.chance.randint(1, 6)
+                kind = "settle" if ended else "take" if waiting else "trigger"
+            job, count = self.chance.choice(list(held) * 20 + list(range(1, jobs + 2))), self.chance.randint(1, 6)
+            if kind == "settle" and ended and self.chance.random() < 0.8:
+                job = self.chance.choice(ended)
             if kind == "trigger":
                 waiting += range(jobs + 1, jobs + tasks + 1)
                 jobs += tasks
             elif kind == "take":
-                held += waiting[:1]
+                held.update((job, 0) for job in waiting[:1])
                 del waiting[:1]
             elif kind == "finish":
-                waiting = []
-            elif kind == "step":
+                waiting, held, ended = [], {}, []
+            elif kind == "step" and job in held:
                 # Most jobs have ended by so many steps.
-                steps[job] = steps.get(job, 0) + count
-                held = [job for job in held if steps.get(job, 0) < 9]
-            made += {
-                "trigger": ["trigger 1"], "take": ["take"], "stop": ["stop %d" % job], "finish": ["finish"],
-                "step": ["step %d" % job] * count, "cause": ["cause %d" % job],
-                "tags": ["tags %d" % self.chance.randint(1, 3)], "policy": ["trigger 3"],
-                "word": ["word %d %d" % (job, self.chance.choice([0, 0, 0, 1]))],
-            }[kind]
+                held[job] += count
+                if held[job] >= 9:
+                    del held[job]
+                    ended.append(job)
+            elif kind == "settle" and job in ended:
+                ended.remove(job)
+                waiting.append(job)
+            made += self.lines_of(kind, job, jobs, count)
         return made
+
+    def lines_of(self, kind, job, jobs, count):
+        """An event of this kind, or some of them."""
+        status = self.chance.choice(["Pending", "Scheduled", "Running", "Stopped", "Error", "Success"])
+        return {
+            "trigger": ["trigger 1"], "take": ["take"], "stop": ["stop %d" % job], "finish": ["finish"],
+            "step": ["step %d" % job] * count, "cause": ["cause %d" % job], "settle": ["settle %d" % job],
+            "tags": ["tags %d" % self.chance.randint(1, 3)], "policy": ["trigger 3"], "row": ["row %d" % job],
+            "word": ["word %d %d" % (job, self.chance.choice([0, 0, 0, 1]))],
+            "wait": ["wait %d" % self.chance.choice([0, 1, 9, 10, 10, 20, 1000000000])],
+            "deliver": ["deliver %d" % self.chance.randint(1, 3 * jobs + 1) for _ in range(count)],
+            "forge": ["forge %d %d %s" % (job, self.chance.choice([0, 0, 0, 1, 2, 3]), status)],
+            "sweep": ["sweep %d" % self.chance.randint(0, 2)], "exec": ["exec %d" % self.chance.randint(1, 3)],
+        }[kind]
 
     def setup_line(self):
         registry = self.chance.choice([1, 1, 1, 1, 1, 2, 2, 3])
@@ -113,6 +131,8 @@ class Maker:
         self.lines.append(" ".join([kind, str(registry), name] + words))
 
     def script(self):
+        if self.chance.random() < 0.1:
+            self.lines.append("jobs %d" % self.chance.randint(1, 6))
         odd = self.chance.choice([0, 0.1, 0.3, 0.5])
         for _ in range(self.chance.randint(1, 16)):
             if self.chance.random() < odd:

@@ -107,7 +107,7 @@ ROWS = [
      ["execution 1 tasks 1", "idle", "library/hello v1 " + image_digest("7b7d", "7b7d"),
       "job 1 final 0 Success"], 0),
     ("an index of two images is copied in sixteen steps", INDEXED + BEGUN + "step 1\n" * 16,
-     ["execution 1 tasks 1", "job 1 rev 0 begins"] + SIXTEEN, 0),
+     ["execution 1 tasks 1", "job 1 rev 0 begins"] + SIXTEEN, 7),
     ("an index and its two images are copied",
      lines("image 1 app a 01 02", "image 1 app b 01 03", "index 1 app all a b", "orphan 2 app 01 02")
      + RUN + "tags 2\n",
@@ -116,7 +116,7 @@ ROWS = [
     ("eight indexes above an image are copied and a ninth is not", chain(9) + RUN + "tags 2\ncause 1\n",
      ["execution 1 tasks 1", "idle"]
      + ["deep i%d %s" % pair for pair in enumerate(chained(8), 1)]
-     + ["cause 1 0 deep " + image_digest("01")], 7),
+     + ["cause 1 2 deep " + image_digest("01")], 7),
     ("eight indexes above an image are copied, and no cause is told", chain(8) + RUN + "cause 1\n",
      ["execution 1 tasks 1", "idle", "no cause 1"], 0),
     ("a job is stopped between two steps",
@@ -132,9 +132,9 @@ ROWS = [
       "cause 1 0 differs %s %s" % (byte("01"), byte("02"))], 7),
     ("a layer of another size than is said ends its job",
      lines("image 1 app v 01", "manifest 1 app w %s %s" % (IMAGE, SHORT)) + RUN + "cause 1\n",
-     ["execution 1 tasks 1", "idle", "cause 1 0 size %s 0 1" % byte("01")], 7),
+     ["execution 1 tasks 1", "idle", "cause 1 2 size %s 0 1" % byte("01")], 7),
     ("a text that is no manifest ends its job", "manifest 1 app v %s %s\n" % (IMAGE, CUT) + RUN + "cause 1\n",
-     ["execution 1 tasks 1", "idle", "cause 1 0 unreadable " + digest_of(CUT.encode())], 7),
+     ["execution 1 tasks 1", "idle", "cause 1 2 unreadable " + digest_of(CUT.encode())], 7),
     ("a put that fails ends its job", HELLO + "lands 0 2 3\n" + BEGUN + "step 1\n" * 4 + "cause 1\n",
      ["execution 1 tasks 1", "job 1 rev 0 begins", "job 1 read-tag v1", "job 1 looked v1 none",
       "job 1 has-blob %s none" % E, "job 1 ended Error fault 2 0 1", "cause 1 0 fault 2 0 1"], 7),
@@ -153,7 +153,7 @@ def of_rows(case):
 
 def operations(script):
     """How many operations the connections to registries 1 and 2 made by the end of a script."""
-    lane = model.replay(script.encode()).kept.lane
+    lane = model.replay(script.encode()).kept.core.lane
     return lane.source.operations, lane.dest.operations
 
 

@@ -1,13 +1,13 @@
-"""The lane of the second program: connections that count their operations, and jobs that are copied
-one step at a time.
+"""The lane of the second program: connections that count their operations, and revisions of jobs that
+are copied one step at a time.
 
-An entry of a journal is a job's number and what happened: a tuple of its kind and what it is about.
+An entry of a journal is a job's number, a revision and what happened: a tuple of its kind and what it
+is about.
 """
 from content_model import MANIFEST_LIMIT, Refused, children_of, digest_of, plain
 
 PAIR_LIMIT = 65536
 DEPTH_LIMIT = 8
-FINAL = ("Stopped", "Error", "Success")
 
 
 # ---- connections
@@ -62,7 +62,7 @@ class Copy:
     """The copy of some tags of one repository, from one connection to another."""
 
     def __init__(self, task, source, dest, write):
-        self.name, self.to, self.tags, self.replaces = task
+        self.name, self.to, self.tags, self.replaces = task.name, task.to, task.tags, task.replaces
         self.source, self.dest, self.write = source, dest, write
 
     def lines(self):
@@ -206,72 +206,72 @@ def compare(digest, said, got):
         raise Refused("size %s %d %d" % (digest, said, got))
 
 
-# ---- jobs
+# ---- revisions that are held
 
 
-class Job:
-    """One task: the repository at the source and at the destination, the tags, and whether a tag that
-    names another manifest is replaced."""
+class Task:
+    """What a job copies: a repository at the source and one at the destination, the tags, and whether a
+    tag that names another manifest is replaced; and how many attempts the job has."""
 
-    def __init__(self, number, name, to, tags, replaces=True):
-        self.number, self.task, self.word = number, (name, to, tags, replaces), "Pending"
+    def __init__(self, name, to, tags, replaces=True, attempts=3):
+        self.name, self.to, self.tags, self.replaces, self.attempts = name, to, tags, replaces, attempts
 
 
 class Lane:
-    """Holds jobs, and does one step of one of them at a time."""
+    """Holds revisions of jobs, one of a job at a time, and does one step of one of them at a time. Their
+    words stand on a board, and `emit` is told each status that a revision comes to."""
 
-    def __init__(self, source, dest):
-        self.source, self.dest = source, dest
-        self.journal, self.hooks, self.held = [], [], {}
+    def __init__(self, source, dest, board, emit):
+        self.source, self.dest, self.board, self.emit = source, dest, board, emit
+        self.journal, self.held = [], {}
 
-    def admit(self, job):
-        """Begins a job, and tells whether its word was waiting for that."""
-        if job.word != "Pending":
-            return False
-        self.move(job, "Running")
-        self.write(job, "began")
-        lines = Copy(job.task, self.source, self.dest, lambda *what: self.write(job, *what)).lines()
+    def admit(self, job, revision, task):
+        """Begins a revision, where its word waits for that. Answers the word that was found where not."""
+        found = self.board.move(job, revision, "Scheduled" if revision else "Pending", "Running")
+        if found:
+            return found
+        self.emit(job, revision, "Running")
+        self.write(job, revision, "began")
+        lines = Copy(task, self.source, self.dest, lambda *what: self.write(job, revision, *what)).lines()
         next(lines)
-        self.held[job.number] = (job, lines)
-        return True
+        self.held[job] = (revision, lines)
+        return None
 
-    def step(self, number):
+    def step(self, job):
         """Does one step of a job, and tells what came of it."""
-        if number not in self.held:
+        if job not in self.held:
             return "not here"
-        job, lines = self.held[number]
-        if job.word != "Running":
-            self.write(job, "dropped")
-            del self.held[number]
-            return "lost %s" % job.word
+        revision, lines = self.held[job]
+        mark = self.board.look(job, revision)
+        if mark != "Running":
+            self.write(job, revision, "dropped")
+            del self.held[job]
+            return "lost %s" % mark
         try:
             next(lines)
         except StopIteration:
-            return self.end(job, "Success")
+            return self.end(job, revision, "Success")
         except Refused as cause:
-            return self.end(job, "Error", str(cause))
+            return self.end(job, revision, "Error", str(cause))
         # Of the two entries of a copied blob the first tells it.
-        _, what = self.journal[-1]
-        return told(*(self.journal[-2][1] if what[0] == "put-blob" else what))
+        what = self.journal[-1][2]
+        return told(*(self.journal[-2][2] if what[0] == "put-blob" else what))
 
-    def end(self, job, status, cause=None):
-        self.move(job, status)
-        self.write(job, "ended", status, cause)
-        del self.held[job.number]
+    def end(self, job, revision, status, cause=None):
+        self.board.move(job, revision, "Running", status)
+        self.emit(job, revision, status)
+        self.write(job, revision, "ended", status, cause)
+        del self.held[job]
         return " ".join(["ended", status] + ([cause] if cause else []))
 
-    def move(self, job, status):
-        job.word = status
-        self.hooks.append((job.number, status))
+    def write(self, job, revision, *what):
+        self.journal.append((job, revision, what))
 
-    def write(self, job, *what):
-        self.journal.append((job.number, what))
-
-    def cause(self, number):
-        """Why a job ended with an error, where it did."""
-        for job, (kind, *about) in reversed(self.journal):
-            if job == number and kind == "ended" and about[1]:
-                return about[1]
+    def cause(self, job):
+        """The revision of a job that ended last with an error, and why, where there is one."""
+        for number, revision, (kind, *about) in reversed(self.journal):
+            if number == job and kind == "ended" and about[1]:
+                return revision, about[1]
         return None
 
 
@@ -298,8 +298,8 @@ def told(kind, *about):
 
 def entry_text(entry):
     """An entry as `show journal` prints it."""
-    job, (kind, *about) = entry
-    return "%d.0 %s" % (job, written(kind, about))
+    job, revision, (kind, *about) = entry
+    return "%d.%d %s" % (job, revision, written(kind, about))
 
 
 def written(kind, about):

@@ -1,21 +1,24 @@
 """The second program: what a script does, written by the rules alone.
 
 `replay` runs a script, and `top` a whole call over devices that may fail. What they answer has the
-status, the text and all that is kept: the registries, the lane, the jobs and the stops.
+status, the text and all that is kept: the registries, and the core with its lane, words and rows.
 """
 import re
-from collections import deque
 
 import config_model
+import core_check
 from content_model import (
     CONFIG, DOCKER_IMAGE, DOCKER_INDEX, FOREIGN, IMAGE, INDEX, LAYER,
     Registry, digest_of, image, index, plain,
 )
-from lane_model import FINAL, Connection, Job, Lane
+from core_model import CODES, Core
+from lane_model import Connection, Lane, Task
 
 SCRIPT_LIMIT = 1048576
 PIECE = 65536
-JOB_LIMIT = 16384
+JOBS = 16384
+JOBS_MOST = 262144
+WAIT_MOST = 1000000000
 LIST_LIMIT = 65536
 
 USAGE = (
@@ -29,15 +32,14 @@ USAGE = (
 # The least and the greatest number of words behind the first one.
 SETUP = {
     "image": (3, None), "index": (3, None), "orphan": (2, None), "manifest": (5, None),
-    "break": (4, 4), "fault": (3, 3), "lands": (3, 3), "change": (6, 6),
+    "break": (4, 4), "fault": (3, 3), "lands": (3, 3), "change": (6, 6), "jobs": (1, 1),
 }
 EVENTS = {
-    "trigger": (1, 1), "take": (0, 0), "step": (1, 1), "stop": (1, 1), "finish": (0, 0), "tags": (1, 1),
-    "word": (2, 2), "cause": (1, 1),
+    "trigger": (1, 1), "take": (0, 0), "step": (1, 1), "settle": (1, 1), "stop": (1, 1), "deliver": (1, 1),
+    "forge": (3, 3), "wait": (1, 1), "sweep": (1, 1), "finish": (0, 0), "tags": (1, 1), "row": (1, 1),
+    "exec": (1, 1), "word": (2, 2), "cause": (1, 1),
 }
-LATER = (
-    "lanes jobs policy schedule label due settle deliver forge wait sweep row exec conflict"
-).split()
+LATER = "lanes policy schedule label due conflict".split()
 COMPONENT = "[a-z0-9]+(?:(?:[.]|_|__|-+)[a-z0-9]+)*"
 NUMBER_END = 2**32
 
@@ -62,6 +64,20 @@ def operation_in(word):
 
 def revision_in(word):
     return number(word, 0, 3)
+
+
+def jobs_in(word):
+    return number(word, 1, JOBS_MOST)
+
+
+def seconds_in(word):
+    return number(word, 0, WAIT_MOST)
+
+
+def status_in(word):
+    if word not in CODES:
+        raise Bad("policy")
+    return word
 
 
 def lane_in(word):
@@ -101,8 +117,11 @@ WORDS = {
     "break": (registry_in, repository, layer, layer),
     "fault": (lane_in, registry_in, operation_in), "lands": (lane_in, registry_in, operation_in),
     "change": (lane_in, registry_in, operation_in, repository, tag_in, tag_in),
-    "trigger": (number,), "step": (number,), "stop": (number,), "cause": (number,),
-    "tags": (registry_in,), "word": (number, revision_in), "take": (), "finish": (),
+    "jobs": (jobs_in,),
+    "trigger": (number,), "take": (), "step": (number,), "settle": (number,), "stop": (number,),
+    "deliver": (number,), "forge": (number, revision_in, status_in), "wait": (seconds_in,), "sweep": (number,),
+    "finish": (), "tags": (registry_in,), "row": (number,), "exec": (number,), "word": (number, revision_in),
+    "cause": (number,),
 }
 REST = {"image": layer, "index": tag_in, "orphan": layer}
 
@@ -116,8 +135,7 @@ class Replay:
     def __init__(self):
         self.registries = [Registry() for _ in range(8)]
         self.failing, self.moves = [[] for _ in range(8)], [[] for _ in range(8)]
-        self.events, self.said, self.plans = [], [], []
-        self.jobs, self.waiting, self.stops = [], deque(), []
+        self.jobs, self.events, self.said = JOBS, [], []
 
     def take(self, line):
         """Takes a line, and does what a setup line says."""
@@ -174,6 +192,9 @@ class Replay:
     def set_change(self, lane, registry, operation, name, tag, other):
         self.moves[registry - 1].append((operation, name, tag, self.named(registry, name, other)))
 
+    def set_jobs(self, jobs):
+        self.jobs = jobs
+
     def named(self, registry, name, tag):
         digest = self.registries[registry - 1].names(name, tag)
         if digest is None:
@@ -184,83 +205,27 @@ class Replay:
 
     def run(self):
         """Runs the events, from what the setup lines made."""
+        self.core = Core(self.lane, self.registries, self.planned(), self.jobs)
+        core_check.check(self.core)
+        for kind, about in self.events:
+            self.said += self.core.event(kind, about)
+            core_check.check(self.core)
+            if kind == "finish":
+                core_check.check_finished(self.core)
+
+    def lane(self, board, emit):
+        """The lane, from registry 1 to registry 2."""
         source, dest = (
             Connection(at, self.registries[at - 1], self.failing[at - 1], self.moves[at - 1]) for at in (1, 2)
         )
-        self.lane, self.plan = Lane(source, dest), self.planned()
-        for kind, about in self.events:
-            getattr(self, "run_" + kind)(*about)
+        return Lane(source, dest, board, emit)
 
     def planned(self):
         """The tasks of the policy, or none where more is there than may be listed."""
         source = self.registries[0].repositories
         if len(source) > LIST_LIMIT or any(len(held.tags) > LIST_LIMIT for held in source.values()):
             return None
-        return [(name, name, sorted(source[name].tags)) for name in sorted(source) if source[name].tags]
-
-    def run_trigger(self, policy):
-        if policy != 1:
-            self.said.append("no policy %d" % policy)
-        elif self.plan is None:
-            self.plans.append(False)
-            self.said.append("execution %d failed" % len(self.plans))
-        elif self.plan and len(self.jobs) + len(self.plan) > JOB_LIMIT:
-            self.said.append("full %d" % JOB_LIMIT)
-        else:
-            made = [Job(at, *task) for at, task in enumerate(self.plan, len(self.jobs) + 1)]
-            self.jobs += made
-            self.waiting.extend(made)
-            self.plans.append(True)
-            self.said.append("execution %d tasks %d" % (len(self.plans), len(made)))
-
-    def run_take(self):
-        if not self.waiting:
-            self.said.append("idle")
-            return
-        job = self.waiting.popleft()
-        said = "rev 0 begins" if self.lane.admit(job) else "lost %s" % job.word
-        self.said.append("job %d %s" % (job.number, said))
-
-    def run_step(self, at):
-        self.said.append("job %d %s" % (at, self.lane.step(at)))
-
-    def run_stop(self, at):
-        job = self.job(at)
-        if job is None:
-            self.said.append("no job %d" % at)
-        elif job.word in FINAL:
-            self.said.append("job %d final 0 %s" % (at, job.word))
-        else:
-            job.word = "Stopped"
-            self.stops.append((at, job.word))
-            self.said.append("job %d stopped 0" % at)
-
-    def run_finish(self):
-        while self.waiting:
-            job = self.waiting.popleft()
-            self.lane.admit(job)
-            while job.number in self.lane.held:
-                self.lane.step(job.number)
-        self.said.append("idle")
-
-    def run_tags(self, registry):
-        for row in self.registries[registry - 1].shown():
-            self.said.append("%s %s %s" % row)
-
-    def run_word(self, at, revision):
-        job = self.job(at)
-        mark = job and job.word if revision == 0 else "Unopened"
-        self.said.append("word %d %d %s" % (at, revision, mark) if job else "no job %d" % at)
-
-    def run_cause(self, at):
-        cause = self.lane.cause(at)
-        self.said.append("cause %d 0 %s" % (at, cause) if cause else "no cause %d" % at)
-
-    def job(self, at):
-        return self.jobs[at - 1] if 1 <= at <= len(self.jobs) else None
-
-    def status(self):
-        return 0 if all(self.plans) and all(job.word == "Success" for job in self.jobs) else 7
+        return [Task(name, name, sorted(source[name].tags)) for name in sorted(source) if source[name].tags]
 
 
 class Ending:
@@ -283,7 +248,7 @@ def replay(script):
             return Ending(2, b"line %d %s\n" % (at, str(why).encode()))
     state.run()
     text = "".join(line + "\n" for line in state.said).encode()
-    return Ending(state.status(), text, state)
+    return Ending(state.core.status(), text, state)
 
 
 def faults_of_input(script, pieces, failing):
