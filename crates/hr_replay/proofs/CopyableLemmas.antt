@@ -1,4 +1,4 @@
--- What can be copied by what the registries of a script open with can arrive in its session.
+-- What can be copied by what the registries of a script open with can arrive by its core.
 use Rattle.std.proofs.Common.{◌≡◌, inl, inr, refl, sym, ap, subst, ◌∙◌, ℕ, Bool, true, false, List, [], ◌∷◌, ◌++◌, length, cond, arith}
 use Rattle.std.proofs.lemmas.List.{length-map}
 use Rattle.std.specs.Prelude.{◌&&◌, not, Option, Some, None, IfSome, IsSome, IsTrue, Contains, if◌then◌else◌, map, nat_eq, option_map}
@@ -33,15 +33,14 @@ use Rattle.hr_memreg.specs.Mem.{seen_of}
 use Rattle.hr_opening.specs.Plan.{are_listed, is_short, plan_of, spec_of, specs_for, specs_of}
 use Rattle.hr_opening.specs.Setup.{Setups, registries_of, registry_of, setup_in}
 use Rattle.hr_opening.specs.declared.setup.RegSetup.{RegSetup}
-use Rattle.hr_session.specs.Arrives.{Arrives, CanArrive, TaskCanArrive}
-use Rattle.hr_session.specs.Holds.{HasSource}
-use Rattle.hr_session.specs.Ready.{CanRun}
-use Rattle.hr_session.specs.State.{Session}
+use Rattle.hr_run.specs.Arrives.{Arrives, CanArrive}
+use Rattle.hr_run.specs.State.{CoreState}
+use Rattle.hr_session.specs.Arrives.{TaskCanArrive}
 use Rattle.hr_whole.specs.Texts.{IsOpenText, OpensWithOneText}
 use Rattle.hr_whole.specs.Whole.{TagIsWhole}
-use Rattle.hr_replay.specs.Connect.{TARGET, dests_of, first_session, sources_of}
+use Rattle.hr_replay.specs.Connect.{TARGET, dests_of, first_lane, sources_of}
 use Rattle.hr_replay.specs.Replay.{EndsWell, HasStatus, IsListed, OpensClear}
-use Rattle.hr_replay.proofs.ConnectLemmas.{of_eight, plan_runs}
+use Rattle.hr_replay.proofs.ConnectLemmas.{of_eight}
 
 -- ---- each tag that is listed is whole
 
@@ -133,22 +132,18 @@ opens_with opens reg bytes c is held =
     let same : (setup_in opens reg).content ≡ c = cc in
     record { reg = reg; held = subst (λ (x : Content). Holds x bytes) (sym same) held }
 
--- the lane of a script before its first event
-abbrev pub lane_of : Setups → State
-lane_of opens = new_lane (sources_of (registries_of opens)) (dests_of (registries_of opens))
-
 -- where all opens clear, the lane opens with one text a digest
 pub opens_one_text : (opens : Setups) → length (registries_of opens) ≡ 8 → OpensClear opens
-    → OpensWithOneText (lane_of opens) (setup_in opens 2).content
+    → OpensWithOneText (first_lane opens) (setup_in opens 2).content
 opens_one_text opens eight =
-    of_eight (λ (opens : Setups). OpensClear opens → OpensWithOneText (lane_of opens) (setup_in opens 2).content) one opens
+    of_eight (λ (opens : Setups). OpensClear opens → OpensWithOneText (first_lane opens) (setup_in opens 2).content) one opens
     (sym (length-map opens registry_of) ∙ eight)
   where
     one : (a b c d e f g h : RegSetup) → OpensClear (a ∷ b ∷ c ∷ d ∷ e ∷ f ∷ g ∷ h ∷ [])
-        → OpensWithOneText (lane_of (a ∷ b ∷ c ∷ d ∷ e ∷ f ∷ g ∷ h ∷ [])) b.content
+        → OpensWithOneText (first_lane (a ∷ b ∷ c ∷ d ∷ e ∷ f ∷ g ∷ h ∷ [])) b.content
     one a b c d e f g h clear = record {
       tell =
-          each_link (λ (f : Reg). IsTrue f.quiet × IsSome f.told) (lane_of all).sources (
+          each_link (λ (f : Reg). IsTrue f.quiet × IsSome f.told) (first_lane all).sources (
             (quiet_of a (clear.moves 1), refl),
             (
               (quiet_of c (clear.moves 3), refl),
@@ -174,9 +169,9 @@ opens_one_text opens eight =
         all = a ∷ b ∷ c ∷ d ∷ e ∷ f ∷ g ∷ h ∷ []
 
         from_source : (bytes : ByteList) (r : RegNo)
-            → IfSome (link_at (lane_of all).sources r) (λ f. (x : Content) → f.told ≡ Some x → Holds x bytes → OpensWith all bytes)
+            → IfSome (link_at (first_lane all).sources r) (λ f. (x : Content) → f.told ≡ Some x → Holds x bytes → OpensWith all bytes)
         from_source bytes =
-            each_link (λ (f : Reg). (x : Content) → f.told ≡ Some x → Holds x bytes → OpensWith all bytes) (lane_of all).sources (
+            each_link (λ (f : Reg). (x : Content) → f.told ≡ Some x → Holds x bytes → OpensWith all bytes) (first_lane all).sources (
               opens_with all 1 bytes,
               (
                 opens_with all 3 bytes,
@@ -190,18 +185,18 @@ opens_one_text opens eight =
               ),
             )
 
-        text_opens : (bytes : ByteList) → IsOpenText (lane_of all) b.content bytes → OpensWith all bytes
+        text_opens : (bytes : ByteList) → IsOpenText (first_lane all) b.content bytes → OpensWith all bytes
         text_opens bytes (IsOpenText.dest held) = record { reg = 2; held = held }
         text_opens bytes (IsOpenText.source r f x is told held) =
             subst (λ (o : Option Reg). IfSome o (λ f. (x : Content) → f.told ≡ Some x → Holds x bytes → OpensWith all bytes)) is
             (from_source bytes r) x told held
 
 -- registry 2 is a destination as it was opened
-pub is_target : (opens : Setups) (t : Session) (seen : Reg) (c : Content) → length (registries_of opens) ≡ 8 → OpensClear opens
-    → link_at t.lane.dests TARGET ≡ Some seen → seen.told ≡ Some c
-    → IsDestination (lane_of opens).dests t.lane TARGET (setup_in opens 2).content c
-is_target opens t seen c eight clear there tells =
-    of_eight (λ (opens : Setups). OpensClear opens → IsDestination (lane_of opens).dests t.lane TARGET (setup_in opens 2).content c)
+pub is_target : (opens : Setups) (lane : State) (seen : Reg) (c : Content) → length (registries_of opens) ≡ 8 → OpensClear opens
+    → link_at lane.dests TARGET ≡ Some seen → seen.told ≡ Some c
+    → IsDestination (first_lane opens).dests lane TARGET (setup_in opens 2).content c
+is_target opens lane seen c eight clear there tells =
+    of_eight (λ (opens : Setups). OpensClear opens → IsDestination (first_lane opens).dests lane TARGET (setup_in opens 2).content c)
     (λ a b x d e f g h clear. record {
       first = record { reg = TARGET; seen = seen_of (registry_of b) };
       within = contains_first _ [];
@@ -214,27 +209,16 @@ is_target opens t seen c eight clear there tells =
       tells = tells;
     }) opens (sym (length-map opens registry_of) ∙ eight) clear
 
--- each task of the plan has a source
-pub plan_has_sources : (opens : Setups) → length (registries_of opens) ≡ 8
-    → IfSome (plan_of (setup_in opens 1).content) (AllByRecursion (HasSource (lane_of opens)))
-plan_has_sources opens eight =
-    each_has_source (plan_of (setup_in opens 1).content) (plan_runs (registries_of opens) eight (setup_in opens 1).content)
-  where
-    each_has_source : (plan : Option (List TaskSpec)) → IfSome plan (AllByRecursion (CanRun (lane_of opens)))
-        → IfSome plan (AllByRecursion (HasSource (lane_of opens)))
-    each_has_source None run = tt
-    each_has_source (Some specs) run = each_then (λ (spec : TaskSpec) (one : CanRun (lane_of opens) spec). one.source) specs run
-
 task_arrives : (opens : Setups) → length opens ≡ 8 → IsCopyable opens → (repo : RepoName) (tags : List Tagged)
     → AllByRecursion (TagIsWhole (setup_in opens 1).content repo) (map (λ (tagged : Tagged). tagged.tag) tags)
-    → TaskCanArrive (lane_of opens) (spec_of repo tags)
+    → TaskCanArrive (first_lane opens) (spec_of repo tags)
 task_arrives opens eight = of_eight (λ (opens : Setups). IsCopyable opens → (repo : RepoName) (tags : List Tagged)
     → AllByRecursion (TagIsWhole (setup_in opens 1).content repo) (map (λ (tagged : Tagged). tagged.tag) tags)
-    → TaskCanArrive (lane_of opens) (spec_of repo tags)) one opens eight
+    → TaskCanArrive (first_lane opens) (spec_of repo tags)) one opens eight
   where
     one : (a b c d e f g h : RegSetup) → IsCopyable (a ∷ b ∷ c ∷ d ∷ e ∷ f ∷ g ∷ h ∷ []) → (repo : RepoName) (tags : List Tagged)
         → AllByRecursion (TagIsWhole a.content repo) (map (λ (tagged : Tagged). tagged.tag) tags)
-        → TaskCanArrive (lane_of (a ∷ b ∷ c ∷ d ∷ e ∷ f ∷ g ∷ h ∷ [])) (spec_of repo tags)
+        → TaskCanArrive (first_lane (a ∷ b ∷ c ∷ d ∷ e ∷ f ∷ g ∷ h ∷ [])) (spec_of repo tags)
     one a b c d e f g h can repo tags whole = record {
       from = a.content;
       to = b.content;
@@ -273,12 +257,12 @@ task_arrives opens eight = of_eight (λ (opens : Setups). IsCopyable opens → (
 
 spec_arrives : (opens : Setups) → length opens ≡ 8 → IsCopyable opens → (repo : RepoName) (tags : List Tagged) (rest : List TaskSpec)
     → AllByRecursion (TagIsWhole (setup_in opens 1).content repo) (map (λ (tagged : Tagged). tagged.tag) tags)
-    → AllByRecursion (TaskCanArrive (lane_of opens)) rest → AllByRecursion (TaskCanArrive (lane_of opens)) (specs_for repo tags ++ rest)
+    → AllByRecursion (TaskCanArrive (first_lane opens)) rest → AllByRecursion (TaskCanArrive (first_lane opens)) (specs_for repo tags ++ rest)
 spec_arrives opens eight can repo [] rest whole others = others
 spec_arrives opens eight can repo (tagged ∷ tags) rest whole others = (task_arrives opens eight can repo (tagged ∷ tags) whole, others)
 
 specs_arrive : (opens : Setups) → length opens ≡ 8 → IsCopyable opens → (repos : List RepoName)
-    → AllByRecursion (TaskCanArrive (lane_of opens)) (specs_of (setup_in opens 1).content repos)
+    → AllByRecursion (TaskCanArrive (first_lane opens)) (specs_of (setup_in opens 1).content repos)
 specs_arrive opens eight can [] = tt
 specs_arrive opens eight can (repo ∷ repos) =
     let c = (setup_in opens 1).content in
@@ -294,15 +278,18 @@ planned_of c = by (is_short (repos_of c) && are_listed c (repos_of c))
     by true some = refl
     by false some = cc
 
-pub can_arrive : (opens : Setups) → length (registries_of opens) ≡ 8 → IsCopyable opens → IsListed opens → CanArrive (first_session opens)
+pub can_arrive : (opens : Setups) → length (registries_of opens) ≡ 8 → IsCopyable opens → IsListed opens
+    → CanArrive (first_lane opens ∷ []) (plan_of (setup_in opens 1).content)
 can_arrive opens eight can listed = record {
   specs = specs_of (setup_in opens 1).content (repos_of (setup_in opens 1).content);
   planned = planned_of (setup_in opens 1).content listed;
-  each = specs_arrive opens (sym (length-map opens registry_of) ∙ eight) can (repos_of (setup_in opens 1).content);
+  each = each_then (λ (spec : TaskSpec) (one : TaskCanArrive (first_lane opens) spec). (one, tt))
+      (specs_of (setup_in opens 1).content (repos_of (setup_in opens 1).content))
+      (specs_arrive opens (sym (length-map opens registry_of) ∙ eight) can (repos_of (setup_in opens 1).content));
 }
 
 -- the status where all arrives
-pub ends_well : (now : Session) (status : ℕ) → HasStatus now status → Arrives now → EndsWell now status
+pub ends_well : (now : CoreState) (status : ℕ) → HasStatus now status → Arrives now → EndsWell now status
 ends_well now status (inl done) arrives = inl done.1
-ends_well now status (inr failed) (inl done) = absurd (failed.0 done)
+ends_well now status (inr failed) (inl all) = absurd (failed.0 all.execs)
 ends_well now status (inr failed) (inr wanting) = inr wanting

@@ -1,5 +1,4 @@
 mod ConnectLemmas
 mod CopyableLemmas
-mod CountLemmas
 mod RunLemmas
 mod ScriptLemmas

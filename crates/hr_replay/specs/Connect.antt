@@ -3,11 +3,12 @@
 use Rattle.std.specs.Prelude.{ℕ, Bool, ◌+◌, nat_eq, not, List, [], ◌∷◌}
 use Rattle.std.specs.List.{filter}
 use Rattle.hr_base.specs.declared.number.RegNo.{RegNo}
-use Rattle.hr_line.specs.State.{Link}
+use Rattle.hr_line.specs.State.{Link, State}
 use Rattle.hr_memreg.specs.Mem.{Mem, seen_of}
 use Rattle.hr_opening.specs.Plan.{plan_of}
 use Rattle.hr_opening.specs.Setup.{Setups, registries_of, setup_in}
-use Rattle.hr_session.specs.State.{Session, opening}
+use Rattle.hr_lane.specs.State.{new_lane}
+use Rattle.hr_run.specs.State.{CoreState, opening}
 
 -- registries as connections, numbered from this number on
 abbrev pub links_from : ℕ → List Mem → List Link
@@ -39,7 +40,11 @@ sources_of regs = filter is_source (links_from 1 regs)
 abbrev pub JOB_LIMIT : ℕ
 JOB_LIMIT = 16384
 
--- the session of a script before its first event
-abbrev pub first_session : Setups → Session
-first_session setups = opening (sources_of (registries_of setups)) (dests_of (registries_of setups)) []
-    (plan_of (setup_in setups 1).content) JOB_LIMIT
+-- the lane of a script before its first event
+abbrev pub first_lane : Setups → State
+first_lane setups = new_lane (sources_of (registries_of setups)) (dests_of (registries_of setups))
+
+-- the core of a script before its first event: with one lane
+abbrev pub first_core : Setups → CoreState
+first_core setups =
+    opening (first_lane setups ∷ []) [] (plan_of (setup_in setups 1).content) JOB_LIMIT

@@ -2,3 +2,4 @@ pub mod Connect
 pub mod Replay
 pub mod Script
 pub mod Text
+pub mod Success

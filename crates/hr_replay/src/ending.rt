@@ -1,32 +1,22 @@
 //! What a script leaves. (Our own.)
-
 ghost use Rattle.hr_replay.specs.Replay.{IsNothing};
 
-use hr_base::{Hook, List};
-use hr_board::PlainBoard;
-use hr_lane::Lane;
+use hr_core::Core;
 use hr_memreg::MemRegistry;
-use std::alloc::Global;
 
-/// What a call leaves: the lane with its registries, its journal and its hooks, the board with the
-/// words of the revisions, and the hooks of the stops, the oldest first. The lane reads from the
-/// registries 1 and 3 to 8, and writes to registry 2. There is none of it where nothing was run.
+/// What a call leaves: the core, with its lane, whose connections are the registries, the board, the
+/// queue, the task store and the hooks. The lane reads from the registries 1 and 3 to 8, and writes
+/// to registry 2. There is none where nothing was run.
 #[derive(Drop)]
 pub struct Ending {
-    pub lane: Option<Lane<MemRegistry>>,
-    pub board: Option<PlainBoard>,
-    pub stops: List<Hook>,
+    pub core: Option<Core<MemRegistry>>,
 }
 
 impl Ending {
-    /// Nothing was run. It takes no memory, and keeps the allocator.
-    pub fn nothing(alloc: Global) -> Ending
+    /// Nothing was run. It takes no memory.
+    pub fn nothing() -> Ending
         ensures { IsNothing result }
     {
-        Ending {
-            lane: None,
-            board: None,
-            stops: List::new(alloc),
-        }
+        Ending { core: None }
     }
 }

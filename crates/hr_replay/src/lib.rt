@@ -1,5 +1,5 @@
 //! A script from its text to its answers: its setup lines open registries in memory, and its events
-//! are run over a lane. Start with `replaying`.
+//! are run by the core. Start with `replaying`.
 #![tactic(auto)]
 
 mod connecting;
@@ -7,6 +7,7 @@ mod ending;
 mod events;
 mod refusal;
 mod replaying;
+mod success;
 
 pub use ending::Ending;
 pub use replaying::{Refused, Replayed, replay};

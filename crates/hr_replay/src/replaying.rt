@@ -1,13 +1,13 @@
 //! A script from its text to its answers. (Our own.)
-ghost use Rattle.std.specs.Prelude.{◌≡◌, ◌≤◌, ◌<◌, ◌+◌, ◌^◌, ◌⊎◌, ℕ, [], List, IfOk, codes, length};
+ghost use Rattle.std.specs.Prelude.{◌≡◌, ◌≤◌, ◌⊎◌, ℕ, [], List, IfOk, codes, length};
 ghost use Rattle.std.specs.List.{AllByRecursion};
 ghost use Rattle.hr_opening.specs.Setup.{Setups, registries_of};
 ghost use Rattle.hr_script.specs.declared.refusal.Why.{Why};
-ghost use Rattle.hr_session.specs.Does.{IsScripted};
-ghost use Rattle.hr_session.specs.Lane.{IsLaneSound};
-ghost use Rattle.hr_session.specs.Parts.{session_of};
-ghost use Rattle.hr_replay.specs.Connect.{first_session};
-ghost use Rattle.hr_replay.specs.Replay.{HasLawfulBoard, IsReplayed, IsRun};
+ghost use Rattle.hr_core.specs.Comes.{IsTaken};
+ghost use Rattle.hr_run.specs.Ready.{IsReady};
+ghost use Rattle.hr_run.specs.Sound.{IsSound};
+ghost use Rattle.hr_replay.specs.Connect.{first_core};
+ghost use Rattle.hr_replay.specs.Replay.{IsReplayed, IsRun};
 ghost use Rattle.hr_replay.specs.Script.{IsBad, LacksTag};
 ghost use Rattle.hr_replay.specs.Text.{bad_text, why_text};
 
@@ -15,16 +15,20 @@ use crate::connecting::{Connected, connect};
 use crate::ending::Ending;
 use crate::events::take_events;
 use crate::refusal::{bad_line, line_lacks_tag};
+use crate::success::all_succeed;
 use hr_base::{Bytes, List, Memory};
 use hr_copyable::canonical_lines_can_be_copied;
+use hr_core::Core;
 use hr_event::Event;
+use hr_lane::Lane;
 use hr_memreg::MemRegistry;
 use hr_opening::{OpenRefused, Opened, open_script, plan};
 use hr_print::print_all;
 use hr_script::{Fault, Lines, SCRIPT_LIMIT, read_lines};
-use hr_session::{
-    Ended, Session, answers_have_texts, each_revision_ends_once, revisions_have_sources,
-    the_promise_holds, what_can_be_copied_arrives, what_is_done_was_copied,
+use hr_run::{
+    answers_have_texts, core_stays_ready, each_end_has_one_hook, hooks_are_covered,
+    one_final_status, revisions_have_sources, rows_tell_words, the_core_holds,
+    what_can_be_copied_arrives, what_succeeded_was_copied,
 };
 use std::alloc::Global;
 
@@ -37,7 +41,7 @@ pub struct Replayed {
     pub kept: Ending,
     /// The answers of its events.
     pub text: Bytes,
-    /// 7 where an execution did not succeed, else 0.
+    /// 7 where an execution that is kept did not succeed, else 0.
     pub status: u8,
 }
 
@@ -54,8 +58,8 @@ pub enum Refused {
 ///
 /// Its setup lines store manifests, blobs and tags in the registries 1 to 8, and plan which of their
 /// operations fail and which tags move. Its events plan tasks from registry 1 to registry 2, take and
-/// step them, stop them, and ask for words, causes and tags. The first bad line is refused, and
-/// nothing is run then.
+/// step them, give them back, stop them, deliver hooks, let time pass, and ask for words, rows,
+/// executions, causes and tags. The first bad line is refused, and nothing is run then.
 pub fn replay(alloc: Global, text: &[u8]) -> Result<Replayed, Refused>
     requires { length text.now ≤ SCRIPT_LIMIT }
     ensures ok { IfOk result (λ run. IsReplayed text.now run.kept run.text run.status) }
@@ -64,10 +68,13 @@ pub fn replay(alloc: Global, text: &[u8]) -> Result<Replayed, Refused>
         ⊎ ((number : ℕ) × (why : Why) × IsBad text.now number why
         × (said ≡ bad_text number (why_text why))) }
 {
-    the_promise_holds();
-    each_revision_ends_once();
-    what_is_done_was_copied();
+    the_core_holds();
+    one_final_status();
+    each_end_has_one_hook();
+    hooks_are_covered();
+    rows_tell_words();
     revisions_have_sources();
+    what_succeeded_was_copied();
     what_can_be_copied_arrives();
     canonical_lines_can_be_copied();
     let lines = match read_lines(alloc, text) {
@@ -92,59 +99,48 @@ pub fn replay(alloc: Global, text: &[u8]) -> Result<Replayed, Refused>
 // Runs the events of a script that was opened.
 fn run(alloc: Global, opened: Opened) -> Result<Replayed, Memory>
     requires eight { length opened.regs ≡ 8 }
-    requires scripted { AllByRecursion IsScripted opened.events }
-    requires few { length opened.events ≤ SCRIPT_LIMIT + 1 }
+    requires taken { AllByRecursion IsTaken opened.events }
     ensures run { IfOk result (λ run. (setups : Setups) → opened.regs ≡ registries_of setups
-        → IsRun (first_session setups) opened.events run.kept run.text run.status) }
+        → IsRun (first_core setups) opened.events run.kept run.text run.status) }
     ensures sound { IfOk result (λ run. (setups : Setups) → opened.regs ≡ registries_of setups
-        → IsLaneSound (first_session setups).lane) }
-    ensures lawful { IfOk result (λ run. HasLawfulBoard run.kept) }
+        → IsSound (first_core setups)) }
 {
     let Opened { regs, events } = opened;
-    let session = begin(alloc, regs)?;
-    play(alloc, session, events.view())
+    let core = begin(alloc, regs)?;
+    core.is_sound();
+    play(alloc, core, events.view())
 }
 
-// The session of a script before its first event.
-fn begin(alloc: Global, regs: List<MemRegistry>) -> Result<Session<MemRegistry>, Memory>
-    requires eight { length regs ≡ 8 }
-    ensures first { IfOk result (λ session. (setups : Setups) → regs ≡ registries_of setups
-        → session_of session ≡ first_session setups) }
-    ensures sound { IfOk result (λ session. IsLaneSound session.lane) }
-    ensures none { IfOk result (λ session. session.execs ≡ []) }
+// The core of a script before its first event.
+fn begin(alloc: Global, regs: List<MemRegistry>) -> Result<Core<MemRegistry>, Memory>
+    requires { length regs ≡ 8 }
+    ensures first { IfOk result (λ core. (setups : Setups) → regs ≡ registries_of setups
+        → core ≡ first_core setups) }
+    ensures ready { IfOk result (λ core. IsReady core) }
 {
     let plan = plan(alloc, &regs.view()[0])?;
     let Connected { sources, dests } = connect(alloc, regs)?;
-    let session = Session::new(alloc, sources, dests, List::new(alloc), plan, JOB_LIMIT)?;
-    session.is_sound();
-    Ok(session)
+    let mut lanes = List::new(alloc);
+    lanes.push(Lane::new(alloc, sources, dests))?;
+    let core = Core::new(alloc, lanes, List::new(alloc), plan, JOB_LIMIT)?;
+    core.is_sound();
+    core_stays_ready();
+    Ok(core)
 }
 
 // Runs events, and gives their text and what is left.
-fn play(alloc: Global, session: Session<MemRegistry>, events: &[Event]) -> Result<Replayed, Memory>
-    requires scripted { AllByRecursion IsScripted events.now }
-    requires few { length session.execs + length events.now + 1 < 2 ^ 32 }
-    ensures run { IfOk result
-        (λ run. IsRun (session_of session) events.now run.kept run.text run.status) }
-    ensures lawful { IfOk result (λ run. HasLawfulBoard run.kept) }
+fn play(alloc: Global, core: Core<MemRegistry>, events: &[Event]) -> Result<Replayed, Memory>
+    requires ready { IsReady core }
+    requires taken { AllByRecursion IsTaken events.now }
+    ensures { IfOk result (λ run. IsRun core events.now run.kept run.text run.status) }
 {
     answers_have_texts();
-    let mut session = session;
-    let told = take_events(alloc, &mut session, events)?;
+    let mut core = core;
+    let told = take_events(alloc, &mut core, events)?;
     let text = print_all(alloc, told.view())?;
-    let status = if session.is_done() { 0 } else { 7 };
-    let Ended {
-        lane,
-        board,
-        stops,
-        ..
-    } = session.end();
-    board.is_lawful();
-    let kept = Ending {
-        lane: Some(lane),
-        board: Some(board),
-        stops,
-    };
+    let views = core.store().executions(alloc)?;
+    let status = if all_succeed(views.view()) { 0 } else { 7 };
+    let kept = Ending { core: Some(core) };
     Ok(Replayed { kept, text, status })
 }
 
