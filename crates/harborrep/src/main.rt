@@ -24,7 +24,7 @@ fn main(rt: HostRuntime) -> ExitCode {
     let mut input = StdSource::new(rt.stdin());
     let mut output = StdSink::new(rt.stdout());
     let mut tree = FileTree::new(rt);
-    let mut kept = Ending::nothing(alloc);
+    let mut kept = Ending::nothing();
     ExitCode::from(top(alloc, &words, &mut input, &mut output, &mut tree, &mut kept))
 }
 

@@ -17,10 +17,12 @@ pub enum Show {
     Tags,
     /// All that each registry holds.
     Content,
-    /// The hooks of the lane, and those of stops.
+    /// The hooks, the first to be emitted first.
     Hooks,
-    /// The mark of each job.
+    /// The last opened revision of each job that is kept, with its status.
     Words,
+    /// Each execution that is kept, with its rows and the hooks that they received.
+    Rows,
 }
 
 /// What the lines of a case have said so far.
@@ -154,6 +156,7 @@ fn show_of(what: &str) -> Option<Show> {
         "content" => Some(Show::Content),
         "hooks" => Some(Show::Hooks),
         "words" => Some(Show::Words),
+        "rows" => Some(Show::Rows),
         _ => None,
     }
 }

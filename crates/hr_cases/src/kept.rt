@@ -1,22 +1,28 @@
 //! The parts of what a run keeps.
 
-use hr_base::{Hook, RegNo};
-use hr_board::PlainBoard;
+use hr_base::RegNo;
+use hr_core::Core;
 use hr_event::Entry;
 use hr_lane::Lane;
 use hr_memreg::MemRegistry;
 use hr_replay::Ending;
 
-/// The registry of this number, where a script was run.
-pub fn registry(kept: &Ending, reg: RegNo) -> Option<&MemRegistry> {
-    match &kept.lane {
-        Some(lane) => connected(lane, reg),
+/// The core, where a script was run.
+pub fn core(kept: &Ending) -> Option<&Core<MemRegistry>> {
+    match &kept.core {
+        Some(core) => Some(core),
         None => None,
     }
 }
 
-// The registry of this number to which a lane is connected.
-fn connected(lane: &Lane<MemRegistry>, reg: RegNo) -> Option<&MemRegistry> {
+// Its lane: a script has one.
+fn lane(kept: &Ending) -> Option<&Lane<MemRegistry>> {
+    core(kept)?.lanes().first()
+}
+
+/// The registry of this number, where a script was run.
+pub fn registry(kept: &Ending, reg: RegNo) -> Option<&MemRegistry> {
+    let lane = lane(kept)?;
     if let Some(conn) = lane.sources().iter().find(|conn| conn.reg == reg) {
         return Some(&conn.link);
     }
@@ -28,29 +34,8 @@ fn connected(lane: &Lane<MemRegistry>, reg: RegNo) -> Option<&MemRegistry> {
 
 /// What happened, the oldest first.
 pub fn journal(kept: &Ending) -> &[Entry] {
-    match &kept.lane {
+    match lane(kept) {
         Some(lane) => lane.journal(),
         None => &[],
-    }
-}
-
-/// The hooks of the lane, the oldest first.
-pub fn hooks(kept: &Ending) -> &[Hook] {
-    match &kept.lane {
-        Some(lane) => lane.hooks(),
-        None => &[],
-    }
-}
-
-/// The hooks of stops, the oldest first.
-pub fn stops(kept: &Ending) -> &[Hook] {
-    kept.stops.view()
-}
-
-/// The board, where a script was run.
-pub fn board(kept: &mut Ending) -> Option<&mut PlainBoard> {
-    match &mut kept.board {
-        Some(board) => Some(board),
-        None => None,
     }
 }

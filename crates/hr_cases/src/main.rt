@@ -19,7 +19,7 @@
 //! | `failing_reads N ..` | the reads with these numbers fail, from 1 |
 //! | `failing_writes N ..` | the writes with these numbers fail, from 1 |
 //! | `failing_files N ..` | the calls of the tree with these numbers fail, from 1 |
-//! | `show WHAT` | prints `journal`, `causes`, `hooks`, `words`, `tags` or `content` of what is kept |
+//! | `show WHAT` | prints `journal`, `causes`, `hooks`, `words`, `rows`, `tags` or `content` of what is kept |
 //! | `task FROM TO TAG HOW` | a task then copies a tag between registries with what is kept in 1 and 2; HOW is `replace` or `keep` |
 //! | `run` | runs the case |
 //!

@@ -5,7 +5,7 @@ use crate::digits::Plain;
 use crate::registries::{write_contents, write_tags};
 use crate::steps::{write_causes, write_journal};
 use crate::tasks::write_tasks;
-use crate::words::{write_hooks, write_words};
+use crate::words::{write_hooks, write_rows, write_words};
 use hr_base::{Bytes, Memory};
 use hr_cause::{Counted, MemSink, MemSource};
 use hr_replay::Ending;
@@ -41,9 +41,9 @@ pub fn run(alloc: Global, case: Case) -> Result<String, Memory> {
         sink: MemSink::new(alloc, failing_writes)?,
         tree: MemTree::new(alloc, files, failing_files)?,
     };
-    let mut kept = call(alloc, &mut said, &words, &mut devices)?;
+    let kept = call(alloc, &mut said, &words, &mut devices)?;
     for show in shows {
-        write_shown(alloc, &mut said, show, &mut kept)?;
+        write_shown(alloc, &mut said, show, &kept)?;
     }
     write_tasks(alloc, &mut said, &kept, &tasks)?;
     Ok(said)
@@ -56,7 +56,7 @@ fn call(
     words: &[Bytes],
     devices: &mut Devices,
 ) -> Result<Ending, Memory> {
-    let mut kept = Ending::nothing(alloc);
+    let mut kept = Ending::nothing();
     let Devices { source, sink, tree } = devices;
     let status = top(alloc, words, source, sink, tree, &mut kept);
     let sent = sink.sent();
@@ -71,7 +71,7 @@ fn write_shown(
     alloc: Global,
     said: &mut String,
     show: Show,
-    kept: &mut Ending,
+    kept: &Ending,
 ) -> Result<(), Memory> {
     match show {
         Show::Journal => write_journal(said, kept),
@@ -79,6 +79,7 @@ fn write_shown(
         Show::Tags => write_tags(said, kept),
         Show::Content => write_contents(alloc, said, kept),
         Show::Hooks => write_hooks(said, kept),
-        Show::Words => write_words(said, kept),
+        Show::Words => write_words(alloc, said, kept),
+        Show::Rows => write_rows(alloc, said, kept),
     }
 }

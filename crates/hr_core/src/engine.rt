@@ -84,6 +84,48 @@ impl<A: Registry> Core<A> {
         })
     }
 
+    /// Its lanes, with their journals and their connections.
+    pub fn lanes(&self) -> &[Lane<A>]
+        ensures { result.now ≡ self.now.lanes }
+    {
+        &self.lanes
+    }
+
+    /// The words of the jobs' revisions.
+    pub fn board(&self) -> &PlainBoard
+        ensures { result.now ≡ self.now.board }
+    {
+        &self.board
+    }
+
+    /// The turns of the jobs.
+    pub fn queue(&self) -> &Queue
+        ensures { result.now ≡ self.now.turns }
+    {
+        &self.turns
+    }
+
+    /// The executions with their rows.
+    pub fn store(&self) -> &Store
+        ensures { result.now ≡ self.now.store }
+    {
+        &self.store
+    }
+
+    /// The hooks that were emitted, over all lanes and stops, the oldest first.
+    pub fn hooks(&self) -> &[Hook]
+        ensures { result.now ≡ self.now.hooks }
+    {
+        &self.hooks
+    }
+
+    /// The moment, in seconds.
+    pub fn now(&self) -> Moment
+        ensures { result.0 ≡ self.now.now }
+    {
+        self.moment
+    }
+
     /// A law: what its board, its queue, its store and its lanes keep to at every moment.
     pub fn is_sound(&self)
         ensures { IsSound self.now }

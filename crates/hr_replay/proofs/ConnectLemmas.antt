@@ -22,7 +22,7 @@ use Rattle.hr_run.specs.Arrives.{LanesHaveSource}
 use Rattle.hr_run.specs.Holds.{HasAttempts}
 use Rattle.hr_run.specs.Ready.{CanRun}
 use Rattle.hr_run.specs.State.{CoreState, opening}
-use Rattle.hr_replay.specs.Connect.{JOB_LIMIT, dests_of, first_core, first_lane, is_dest, is_source, links_from, sources_of}
+use Rattle.hr_replay.specs.Connect.{dests_of, first_core, first_lane, is_dest, is_source, links_from, sources_of}
 
 -- what holds of eight items, holds of a list of that length
 pub of_eight : {X : Type 0} (P : List X → Type 0) → ((a b c d e f g h : X) → P (a ∷ b ∷ c ∷ d ∷ e ∷ f ∷ g ∷ h ∷ []))
@@ -198,16 +198,16 @@ first_content [] m eight = absurd (omega (arith, eight))
 first_content (x ∷ more) m eight = refl
 
 pub begins_first : (setups : Setups) (regs items : List Mem) (m : Mem) (plan : Option (List TaskSpec)) (sources dests : List Link) (lane : State)
-    (held : List (Conn Mem)) (s : CoreState) → held ≡ [] → regs ≡ registries_of setups → length regs ≡ 8 → items ≡ regs → m ≡ get_or items 0 m
+    (jobs : ℕ) (held : List (Conn Mem)) (s : CoreState) → held ≡ [] → regs ≡ registries_of setups → length regs ≡ 8 → items ≡ regs → m ≡ get_or items 0 m
     → plan ≡ plan_of m.content → sources ≡ sources_of regs → dests ≡ dests_of regs → lane ≡ new_lane sources dests
-    → s ≡ opening (lane ∷ []) (links_of seen_of held) plan JOB_LIMIT → s ≡ first_core setups
-begins_first setups regs items m plan sources dests lane held s none opened eight same at planned one two new is =
+    → s ≡ opening (lane ∷ []) (links_of seen_of held) plan jobs → s ≡ first_core setups jobs
+begins_first setups regs items m plan sources dests lane jobs held s none opened eight same at planned one two new is =
     let few : length (registries_of setups) ≡ 8 = sym (ap (λ (xs : List Mem). length xs) opened) ∙ eight in
     let content : m.content ≡ (setup_in setups 1).content =
     ap (λ (x : Mem). x.content) (at ∙ ap (λ (xs : List Mem). get_or xs 0 m) (same ∙ opened)) ∙ first_content setups m few in
     let first : lane ≡ first_lane setups =
     lane_is regs sources dests lane one two new ∙ ap (λ (xs : List Mem). new_lane (sources_of xs) (dests_of xs)) opened in
     is
-    ∙ ap (λ (x : List (Conn Mem)). opening (lane ∷ []) (links_of seen_of x) plan JOB_LIMIT) none
-    ∙ ap (λ (x : State). opening (x ∷ []) [] plan JOB_LIMIT) first
-    ∙ ap (λ (x : Option (List TaskSpec)). opening (first_lane setups ∷ []) [] x JOB_LIMIT) (planned ∙ ap (λ (c : Content). plan_of c) content)
+    ∙ ap (λ (x : List (Conn Mem)). opening (lane ∷ []) (links_of seen_of x) plan jobs) none
+    ∙ ap (λ (x : State). opening (x ∷ []) [] plan jobs) first
+    ∙ ap (λ (x : Option (List TaskSpec)). opening (first_lane setups ∷ []) [] x jobs) (planned ∙ ap (λ (c : Content). plan_of c) content)

@@ -73,6 +73,41 @@ taken_at [] at d within all = absurd (omega (arith, within))
 taken_at (f ∷ events) zero d within all = all.0
 taken_at (f ∷ events) (suc at) d within all = taken_at events at d (omega (arith, within)) all.1
 
+-- ---- the last event
+
+-- the last of these events was done behind the others
+pub record EndsBy (first : CoreState) (front : List Event) (e : Event) (t : CoreState) : Type 0 where
+  pub before : CoreState
+  pub said : List Told
+  pub answers : List Told
+  pub runs : RunsThrough first front said before
+  pub does : Does before e answers t
+  pub sound : IsSound t
+
+pub ends_by : (front : List Event) (first : CoreState) (e : Event) (said : List Told) (t : CoreState)
+    → RunsThrough first (front ++ e ∷ []) said t → EndsBy first front e t
+ends_by [] first e said t (mid, answers, later, does, sound, (same, none), is) = record {
+  before = first;
+  said = [];
+  answers = answers;
+  runs = (refl, refl);
+  does = subst (λ (x : CoreState). Does first e answers x) (sym same) does;
+  sound = subst IsSound (sym same) sound;
+}
+ends_by (f ∷ front) first e said t (mid, answers, later, does, sound, runs, is) = let ends = ends_by front mid e later t runs in record {
+  before = ends.before;
+  said = answers ++ ends.said;
+  answers = ends.answers;
+  runs = (mid, answers, ends.said, does, sound, ends.runs, refl);
+  does = ends.does;
+  sound = ends.sound;
+}
+
+-- the core is sound behind events, where it was before them
+pub sound_behind : (events : List Event) (s t : CoreState) (said : List Told) → IsSound s → RunsThrough s events said t → IsSound t
+sound_behind [] s t said sound (same, none) = subst IsSound (sym same) sound
+sound_behind (e ∷ events) s t said sound (mid, answers, later, does, well, runs, is) = sound_behind events mid t later well runs
+
 -- ---- so far
 
 -- so many of the events were done
@@ -115,7 +150,7 @@ event_taken (event.Wait seconds) fit = tt
 event_taken (event.Sweep keep) fit = tt
 event_taken (event.Row job) fit = tt
 event_taken (event.Exec exec) fit = tt
-event_taken (event.Forge hook) fit = absurd fit
+event_taken (event.Forge hook) fit = fit
 event_taken event.Due fit = absurd fit
 
 pub all_taken : (events : List Event) → AllByRecursion IsScripted events → AllByRecursion IsTaken events

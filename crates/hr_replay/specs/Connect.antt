@@ -36,15 +36,11 @@ dests_of regs = filter is_dest (links_from 1 regs)
 abbrev pub sources_of : List Mem → List Link
 sources_of regs = filter is_source (links_from 1 regs)
 
--- how many jobs there are at most
-abbrev pub JOB_LIMIT : ℕ
-JOB_LIMIT = 16384
-
 -- the lane of a script before its first event
 abbrev pub first_lane : Setups → State
 first_lane setups = new_lane (sources_of (registries_of setups)) (dests_of (registries_of setups))
 
--- the core of a script before its first event: with one lane
-abbrev pub first_core : Setups → CoreState
-first_core setups =
-    opening (first_lane setups ∷ []) [] (plan_of (setup_in setups 1).content) JOB_LIMIT
+-- the core of a script before its first event: with one lane, and room for so many jobs
+abbrev pub first_core : Setups → ℕ → CoreState
+first_core setups jobs =
+    opening (first_lane setups ∷ []) [] (plan_of (setup_in setups 1).content) jobs

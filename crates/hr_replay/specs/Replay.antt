@@ -3,6 +3,7 @@ use Rattle.std.specs.Prelude.{◌≡◌, ◌⊎◌, List, ◌∷◌, [], ◌++�
 use Rattle.std.specs.List.{Contains}
 use Rattle.hr_base.specs.Bytes.{ByteList, Text}
 use Rattle.hr_event.specs.declared.event.Event.{Event}
+use Rattle.hr_event.specs.declared.event.Event.TheVariants.{Finish}
 use Rattle.hr_event.specs.declared.told.Told.{Told}
 use Rattle.hr_adapter.specs.Content.{Content, Honest}
 use Rattle.hr_adapter.specs.Reg.{Reg}
@@ -16,7 +17,7 @@ use Rattle.hr_opening.specs.Plan.{plan_of}
 use Rattle.hr_opening.specs.Setup.{Setups, setup_in}
 use Rattle.hr_print.specs.Text.{texts_of}
 use Rattle.hr_run.specs.Arrives.{AskForAll, ExecsSucceed, IsTaskCopied, RunsThrough, WantedMemory}
-use Rattle.hr_run.specs.Claims.{AllConfirmed, LanesHold, OneEach, OneFinal, RowsTell}
+use Rattle.hr_run.specs.Claims.{AllConfirmed, AllDone, LanesHold, OneEach, OneFinal, RowsTell}
 use Rattle.hr_run.specs.State.{CoreState}
 use Rattle.hr_store.specs.Row.{RowState}
 use Rattle.hr_store.specs.Store.{row_of_job}
@@ -87,18 +88,22 @@ AreTasksCopied now = (job : ℕ) (row : RowState) → row_of_job job now.store.k
     → IsTaskCopied now job row.spec
 
 -- the text is a script, whose events were run one after the other, with answers of this text; what
--- operators rest on holds at the end, as after each front of the events; with the status 0 the task
--- of each row was copied; and where all that stands in the registries can be copied, as it can where
--- canonical lines stored it, and the events ask for all of it, the status is 0, or memory was
--- wanting
+-- operators rest on holds at the end, as after each front of the events; after each finish all jobs
+-- are over and each row is where its word is; with the status 0 the task of each row was copied; and
+-- where all that stands in the registries can be copied, as it can where canonical lines stored it,
+-- and the events ask for all of it, the status is 0, or memory was wanting
 pub record IsReplayed (script : ByteList) (kept : Ending) (text : Text) (status : ℕ) : Type 0 where
   pub opens : Setups
   pub events : List Event
-  pub reads : IsScript script opens events
-  pub run : IsRun (first_core opens) events kept text status
+  pub jobs : ℕ
+  pub reads : IsScript script opens events jobs
+  pub run : IsRun (first_core opens jobs) events kept text status
   pub always : (front behind : List Event) (answers : List Told) (mid : CoreState)
-      → events ≡ front ++ behind → RunsThrough (first_core opens) front answers mid
+      → events ≡ front ++ behind → RunsThrough (first_core opens jobs) front answers mid
       → IsReliable opens mid
+  pub done : (front behind : List Event) (answers : List Told) (mid : CoreState)
+      → events ≡ front ++ Finish ∷ behind
+      → RunsThrough (first_core opens jobs) (front ++ Finish ∷ []) answers mid → AllDone mid
   pub reliable : IsReliable opens run.after
   pub copied : status ≡ 0 → AreTasksCopied run.after
   pub arrives : IsCopyable opens → IsListed opens → AskForAll events → EndsWell run.after status

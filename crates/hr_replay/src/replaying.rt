@@ -22,18 +22,15 @@ use hr_core::Core;
 use hr_event::Event;
 use hr_lane::Lane;
 use hr_memreg::MemRegistry;
-use hr_opening::{OpenRefused, Opened, open_script, plan};
+use hr_opening::{OpenRefused, Opened, open_script, plan, some_jobs_may_be, what_is_read_is_fit};
 use hr_print::print_all;
 use hr_script::{Fault, Lines, SCRIPT_LIMIT, read_lines};
 use hr_run::{
-    answers_have_texts, core_stays_ready, each_end_has_one_hook, hooks_are_covered,
+    answers_have_texts, core_stays_ready, done_after_finish, each_end_has_one_hook, hooks_are_covered,
     one_final_status, revisions_have_sources, rows_tell_words, the_core_holds,
     what_can_be_copied_arrives, what_succeeded_was_copied,
 };
 use std::alloc::Global;
-
-// How many jobs there are at most.
-const JOB_LIMIT: u32 = 16_384;
 
 /// What running a script gave.
 #[derive(Drop)]
@@ -73,10 +70,13 @@ pub fn replay(alloc: Global, text: &[u8]) -> Result<Replayed, Refused>
     each_end_has_one_hook();
     hooks_are_covered();
     rows_tell_words();
+    done_after_finish();
     revisions_have_sources();
     what_succeeded_was_copied();
     what_can_be_copied_arrives();
     canonical_lines_can_be_copied();
+    what_is_read_is_fit();
+    some_jobs_may_be();
     let lines = match read_lines(alloc, text) {
         Ok(lines) => lines,
         Err(Memory) => return Err(Refused::Memory),
@@ -100,29 +100,31 @@ pub fn replay(alloc: Global, text: &[u8]) -> Result<Replayed, Refused>
 fn run(alloc: Global, opened: Opened) -> Result<Replayed, Memory>
     requires eight { length opened.regs ≡ 8 }
     requires taken { AllByRecursion IsTaken opened.events }
+    requires few { opened.jobs ≤ 262144 }
     ensures run { IfOk result (λ run. (setups : Setups) → opened.regs ≡ registries_of setups
-        → IsRun (first_core setups) opened.events run.kept run.text run.status) }
+        → IsRun (first_core setups opened.jobs) opened.events run.kept run.text run.status) }
     ensures sound { IfOk result (λ run. (setups : Setups) → opened.regs ≡ registries_of setups
-        → IsSound (first_core setups)) }
+        → IsSound (first_core setups opened.jobs)) }
 {
-    let Opened { regs, events } = opened;
-    let core = begin(alloc, regs)?;
+    let Opened { regs, events, jobs } = opened;
+    let core = begin(alloc, regs, jobs)?;
     core.is_sound();
     play(alloc, core, events.view())
 }
 
-// The core of a script before its first event.
-fn begin(alloc: Global, regs: List<MemRegistry>) -> Result<Core<MemRegistry>, Memory>
-    requires { length regs ≡ 8 }
+// The core of a script before its first event, with room for so many jobs.
+fn begin(alloc: Global, regs: List<MemRegistry>, jobs: u32) -> Result<Core<MemRegistry>, Memory>
+    requires eight { length regs ≡ 8 }
+    requires few { jobs ≤ 262144 }
     ensures first { IfOk result (λ core. (setups : Setups) → regs ≡ registries_of setups
-        → core ≡ first_core setups) }
+        → core ≡ first_core setups jobs) }
     ensures ready { IfOk result (λ core. IsReady core) }
 {
     let plan = plan(alloc, &regs.view()[0])?;
     let Connected { sources, dests } = connect(alloc, regs)?;
     let mut lanes = List::new(alloc);
     lanes.push(Lane::new(alloc, sources, dests))?;
-    let core = Core::new(alloc, lanes, List::new(alloc), plan, JOB_LIMIT)?;
+    let core = Core::new(alloc, lanes, List::new(alloc), plan, jobs)?;
     core.is_sound();
     core_stays_ready();
     Ok(core)

@@ -11,7 +11,7 @@ use Rattle.hr_top.specs.Outcome.{Comes, sent_status_of, text_of, unsent_status_o
 use Rattle.hr_top.specs.declared.outcome.Outcome.{Outcome}
 use Rattle.hr_top.specs.declared.outcome.Outcome.TheVariants.{Replayed, Checked, Usage, Bad, TooLong, Unfit, Faulted, TreeFaulted, Memory}
 use Rattle.hr_replay.specs.Replay.{HasStatus}
-use Rattle.hr_session.specs.State.{Session}
+use Rattle.hr_run.specs.State.{CoreState}
 use Rattle.hr_replay.specs.declared.ending.Ending.{Ending}
 
 -- there is one word, and it is this text
@@ -28,7 +28,7 @@ one_word (w ∷ x ∷ more) word v s r some few is view eq = absurd (omega arith
 
 -- ---- the status
 
-zero_or_seven : (state : Session) (status : ℕ) → HasStatus state status → (status ≡ 0) ⊎ (status ≡ 7)
+zero_or_seven : (state : CoreState) (status : ℕ) → HasStatus state status → (status ≡ 0) ⊎ (status ≡ 7)
 zero_or_seven state status has = ⊎_elim (λ done. inl done.1) (λ failed. inr failed.1) has
 
 pub sent_status_is : (outcome : Outcome) (words : List Text) (before now : Option ByteList) (files : Option Files) (faults faults' tree tree' : ℕ) (kept : Ending) → Comes outcome words before now files faults faults' tree tree' kept
