@@ -5,7 +5,7 @@ use Rattle.std.proofs.lemmas.List.{drop_all}
 use Rattle.std.specs.Prelude.{Option, Some, None}
 use Rattle.hr_event.specs.declared.cause.Cause.{Cause}
 use Rattle.hr_line.specs.State.{State}
-use Rattle.hr_session.specs.Answer.{cause_in}
+use Rattle.hr_promise.specs.Answer.{cause_in}
 use Rattle.hr_run.specs.Does.{cause_among, first_cause}
 
 cause_lane : (lanes : List State) (at : ℕ) (lane : State) (job : ℕ) → at < length lanes → lane ≡ get_or lanes at lane

@@ -13,7 +13,7 @@ use Rattle.hr_line.specs.declared.answer.Stepped.{Stepped}
 use Rattle.hr_line.specs.declared.answer.Stepped.TheVariants as stepped
 use Rattle.hr_line.specs.declared.held.Held.{Held}
 use Rattle.hr_lane.specs.Word.{Steps}
-use Rattle.hr_session.specs.Lane.{IsLaneSound}
+use Rattle.hr_promise.specs.Lane.{IsLaneSound}
 use Rattle.hr_core.specs.Lanes.{Emits}
 
 come_hooks : (h : Held) (s t : State) (why : Option Cause) → ComesToEnd h s t why → t.hooks ≡ s.hooks

@@ -10,7 +10,7 @@ use Rattle.hr_event.specs.declared.cause.Cause.{Cause}
 use Rattle.hr_event.specs.declared.entry.Entry.{Entry}
 use Rattle.hr_event.specs.declared.entry.What.{What}
 use Rattle.hr_event.specs.declared.entry.What.TheVariants as what
-use Rattle.hr_session.specs.Answer.{cause_in, cause_said, last_done, told_by, with_rev}
+use Rattle.hr_promise.specs.Answer.{cause_in, cause_said, last_done, told_by, with_rev}
 
 -- ---- what the last step did
 

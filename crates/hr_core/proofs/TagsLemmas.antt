@@ -12,7 +12,7 @@ use Rattle.hr_adapter.specs.Reg.{Reg}
 use Rattle.hr_line.specs.State.{Link, link_at}
 use Rattle.hr_lane.specs.Conn.{links_of}
 use Rattle.hr_lane.specs.declared.conn.Conn.{Conn}
-use Rattle.hr_session.specs.Answer.{tag_told}
+use Rattle.hr_promise.specs.Answer.{tag_told}
 use Rattle.hr_core.specs.Tags.{told_of}
 use Rattle.hr_line.specs.State.{State}
 use Rattle.hr_run.specs.Does.{tags_told}

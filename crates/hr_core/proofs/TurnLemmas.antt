@@ -32,8 +32,8 @@ use Rattle.hr_store.specs.Store.{row_of_job}
 use Rattle.hr_run.specs.Ready.{IsReady}
 use Rattle.hr_run.specs.Turning.{AdmitsTurn, FindsHeld, FindsNotOut, FindsSwept, GoesOut, NoneHolds, SettlesOut, StepsJob, StepsNone, TakesNone, TakesTurn, settled_told}
 use Rattle.hr_core.proofs.StateLemmas.{out_on_board}
-use Rattle.hr_session.specs.Answer.{IsTold, last_cause, last_done}
-use Rattle.hr_session.specs.Lane.{StepTells}
+use Rattle.hr_promise.specs.Answer.{IsTold, last_cause, last_done}
+use Rattle.hr_promise.specs.Lane.{StepTells}
 use Rattle.hr_core.specs.Lanes.{DidStep, Emits, HoldsAt, LaneAdmits, StepsAt}
 use Rattle.hr_core.specs.Row.{HasSpec}
 

@@ -18,8 +18,8 @@ use Rattle.hr_run.specs.Part.{CallsLane}
 use Rattle.hr_run.specs.State.{CoreState}
 use Rattle.hr_run.specs.Ready.{IsReady}
 use Rattle.hr_run.specs.Turning.{AdmitTells, NoneHolds, StepsJob}
-use Rattle.hr_session.specs.Answer.{last_done}
-use Rattle.hr_session.specs.Lane.{IsLaneSound}
+use Rattle.hr_promise.specs.Answer.{last_done}
+use Rattle.hr_promise.specs.Lane.{IsLaneSound}
 
 -- the lane at a place holds a job
 pub record HoldsAt (lanes : List State) (job : JobNo) (at : ℕ) : Type 0 where

@@ -1,7 +1,7 @@
 //! What is asked of rows, executions and the causes of errors. (Our own, after Harbor's task manager.)
 ghost use Rattle.std.specs.Prelude.{◌≡◌, IfOk};
 ghost use Rattle.hr_run.specs.Does.{cause_among, exec_told, row_told};
-ghost use Rattle.hr_session.specs.Answer.{cause_told};
+ghost use Rattle.hr_promise.specs.Answer.{cause_told};
 ghost use Rattle.hr_store.specs.Store.{exec_numbered, row_of_job};
 
 use crate::engine::Core;

@@ -3,7 +3,7 @@
 ghost use Rattle.std.specs.Prelude.{◌≡◌, ◌≤◌, ◌<◌, IfOk};
 ghost use Rattle.std.specs.List.{AllByRecursion};
 ghost use Rattle.hr_lane.specs.Conn.{links_of};
-ghost use Rattle.hr_session.specs.Lane.{IsLaneSound};
+ghost use Rattle.hr_promise.specs.Lane.{IsLaneSound};
 
 use crate::made::Made;
 use crate::marks::Marks;

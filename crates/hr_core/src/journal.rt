@@ -1,6 +1,6 @@
 //! What a journal answers: what the last step did, and why a job failed. (Our own.)
 ghost use Rattle.std.specs.Prelude.{◌≡◌, IfOk, IsSome, Some, reverse};
-ghost use Rattle.hr_session.specs.Answer.{cause_in, cause_said, last_cause, last_done};
+ghost use Rattle.hr_promise.specs.Answer.{cause_in, cause_said, last_cause, last_done};
 
 use hr_base::{JobNo, Memory};
 use hr_event::{Cause, Entry, What};

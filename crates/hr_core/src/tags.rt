@@ -3,7 +3,7 @@ ghost use Rattle.std.specs.Prelude.{◌≡◌, ◌++◌, IfOk, Some, map};
 ghost use Rattle.hr_core.specs.Tags.{told_of};
 ghost use Rattle.hr_lane.specs.Conn.{links_of};
 ghost use Rattle.hr_run.specs.Does as does;
-ghost use Rattle.hr_session.specs.Answer.{tag_told};
+ghost use Rattle.hr_promise.specs.Answer.{tag_told};
 
 use crate::engine::Core;
 use hr_adapter::{Registry, TagNow};

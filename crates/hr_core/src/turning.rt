@@ -3,8 +3,8 @@
 ghost use Rattle.std.specs.Prelude.{◌≡◌, ◌⊎◌, ◌<◌, None, IfOk, IsSome, OnErr, MatchOption, reverse};
 ghost use Rattle.hr_event.specs.declared.task.Turn.{Turn};
 ghost use Rattle.hr_queue.specs.declared.answer.Taken.TheVariants as taken;
-ghost use Rattle.hr_session.specs.Answer.{last_done};
-ghost use Rattle.hr_session.specs.Lane.{StepTells};
+ghost use Rattle.hr_promise.specs.Answer.{last_done};
+ghost use Rattle.hr_promise.specs.Lane.{StepTells};
 ghost use Rattle.hr_store.specs.Store.{row_of_job};
 ghost use Rattle.hr_run.specs.Turning.{settled_told};
 
@@ -18,7 +18,7 @@ use hr_event::{Entry, TaskSpec, Told, Turn};
 use hr_line::Stepped;
 use hr_queue::{Settled, Taken};
 use hr_run::core_stays_ready;
-use hr_session::steps_come_to_an_end;
+use hr_promise::steps_come_to_an_end;
 use std::alloc::Global;
 
 impl<A: Registry> Core<A> {

@@ -35,7 +35,7 @@ use Rattle.hr_opening.specs.Setup.{Setups, registries_of, registry_of, setup_in}
 use Rattle.hr_opening.specs.declared.setup.RegSetup.{RegSetup}
 use Rattle.hr_run.specs.Arrives.{Arrives, CanArrive}
 use Rattle.hr_run.specs.State.{CoreState}
-use Rattle.hr_session.specs.Arrives.{TaskCanArrive}
+use Rattle.hr_promise.specs.Arrives.{TaskCanArrive}
 use Rattle.hr_whole.specs.Texts.{IsOpenText, OpensWithOneText}
 use Rattle.hr_whole.specs.Whole.{TagIsWhole}
 use Rattle.hr_replay.specs.Connect.{TARGET, dests_of, first_lane, sources_of}

@@ -18,7 +18,7 @@ use Rattle.hr_line.specs.declared.held.Admitted.{Admitted}
 use Rattle.hr_store.specs.Row.{RowState, row_status}
 use Rattle.hr_store.specs.Store.{row_of_job}
 use Rattle.hr_whole.specs.Copied.{EndsWell}
-use Rattle.hr_session.specs.Arrives.{TaskCanArrive}
+use Rattle.hr_promise.specs.Arrives.{TaskCanArrive}
 use Rattle.hr_run.specs.Arrives.{AllArrived, Arrives, LanesCanCopy, LanesHaveSource, WantedMemory}
 use Rattle.hr_run.specs.Claims.{AllDone, LanesHold, OneEach, word_at}
 use Rattle.hr_run.specs.State.{CoreState, spec_of, status_word}

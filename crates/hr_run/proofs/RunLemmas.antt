@@ -14,8 +14,8 @@ use Rattle.hr_line.specs.declared.answer.Stepped.{Stepped}
 use Rattle.hr_line.specs.declared.held.Admitted.{Admitted}
 use Rattle.hr_lane.specs.Admission.{AdmitsWord}
 use Rattle.hr_lane.specs.Word.{Steps}
-use Rattle.hr_session.specs.Holds.{LaneRuns}
-use Rattle.hr_session.specs.Lane.{IsLaneSound}
+use Rattle.hr_promise.specs.Holds.{LaneRuns}
+use Rattle.hr_promise.specs.Lane.{IsLaneSound}
 use Rattle.hr_run.specs.Part.{LaneDoes, Part, Parts}
 use Rattle.hr_run.specs.Part.LaneDoes.{admits, steps}
 use Rattle.hr_run.specs.Part.Part.{makes, passes, receives, stops, turns, works}

@@ -15,8 +15,8 @@ use Rattle.hr_line.specs.State.{State, link_at}
 use Rattle.hr_line.specs.declared.held.Admitted.{Admitted}
 use Rattle.hr_whole.specs.Copied.{BothUnfailing, CanBeCopied}
 use Rattle.hr_whole.specs.Texts.{HaveSources}
-use Rattle.hr_session.specs.Arrives.{TaskCanArrive, as_first}
-use Rattle.hr_session.specs.Holds.{HasSource}
+use Rattle.hr_promise.specs.Arrives.{TaskCanArrive, as_first}
+use Rattle.hr_promise.specs.Holds.{HasSource}
 use Rattle.hr_run.specs.Arrives.{LanesCanCopy, LanesHaveSource, RunsThrough}
 use Rattle.hr_run.specs.Holds.{Holds, IsServing, IsTask}
 use Rattle.hr_run.specs.State.{CoreState, spec_of}

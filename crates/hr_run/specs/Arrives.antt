@@ -12,8 +12,8 @@ use Rattle.hr_line.specs.Finals.{IsFinished}
 use Rattle.hr_line.specs.Orderly.{admitted_at}
 use Rattle.hr_line.specs.State.{State}
 use Rattle.hr_line.specs.declared.held.Admitted.{Admitted}
-use Rattle.hr_session.specs.Arrives.{RanOutOfMemory, TaskCanArrive}
-use Rattle.hr_session.specs.Holds.{HasSource}
+use Rattle.hr_promise.specs.Arrives.{RanOutOfMemory, TaskCanArrive}
+use Rattle.hr_promise.specs.Holds.{HasSource}
 use Rattle.hr_store.specs.Execution.{ExecState, exec_view}
 use Rattle.hr_run.specs.Claims.{word_at}
 use Rattle.hr_run.specs.Run.{Does}

@@ -18,7 +18,7 @@ use Rattle.hr_board.specs.Over.{EndsJob, IsOver}
 use Rattle.hr_board.specs.Plain.{Plain}
 use Rattle.hr_board.specs.View.{Place, Word, place_of}
 use Rattle.hr_line.specs.State.{State}
-use Rattle.hr_session.specs.Holds.{LaneHolds, LaneRuns}
+use Rattle.hr_promise.specs.Holds.{LaneHolds, LaneRuns}
 use Rattle.hr_store.specs.Laws.{hooks_of_job}
 use Rattle.hr_store.specs.Row.{RowState}
 use Rattle.hr_store.specs.Store.{row_of_job}

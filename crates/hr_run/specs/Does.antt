@@ -12,7 +12,7 @@ use Rattle.hr_event.specs.declared.told.Told.{Told}
 use Rattle.hr_event.specs.declared.told.Told.TheVariants as told
 use Rattle.hr_adapter.specs.Calls.{shown_of}
 use Rattle.hr_line.specs.State.{Link, State, link_at}
-use Rattle.hr_session.specs.Answer.{cause_in, cause_told, tag_told}
+use Rattle.hr_promise.specs.Answer.{cause_in, cause_told, tag_told}
 use Rattle.hr_store.specs.Execution.{ExecState, exec_view}
 use Rattle.hr_store.specs.Row.{RowState}
 use Rattle.hr_store.specs.Store.{exec_numbered, row_of_job}

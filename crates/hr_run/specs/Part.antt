@@ -29,7 +29,7 @@ use Rattle.hr_store.specs.Creating.{IsCreated}
 use Rattle.hr_store.specs.Receiving.{ReceivesHook}
 use Rattle.hr_store.specs.Row.{RowState}
 use Rattle.hr_store.specs.Store.{row_of_job}
-use Rattle.hr_session.specs.Lane.{IsLaneSound}
+use Rattle.hr_promise.specs.Lane.{IsLaneSound}
 use Rattle.hr_run.specs.Holds.{HasAttempts, HoldsOut, IsTask, IsTurnOut}
 use Rattle.hr_run.specs.State.{CoreState, hook_at, queued_from, spec_of, with_mark}
 

@@ -2,7 +2,7 @@
 use Rattle.std.specs.List.{AllByRecursion}
 use Rattle.hr_board.specs.Plain.{IsLawful}
 use Rattle.hr_queue.specs.Whole.{IsWhole}
-use Rattle.hr_session.specs.Lane.{IsLaneSound}
+use Rattle.hr_promise.specs.Lane.{IsLaneSound}
 use Rattle.hr_store.specs.Store.{AreOrdered, FailsBare}
 use Rattle.hr_run.specs.State.{CoreState}
 

@@ -22,7 +22,7 @@ use Rattle.hr_queue.specs.declared.answer.Settled.{Settled}
 use Rattle.hr_queue.specs.declared.answer.Settled.TheVariants as settled
 use Rattle.hr_queue.specs.declared.answer.Taken.{Taken}
 use Rattle.hr_queue.specs.declared.answer.Taken.TheVariants as taken
-use Rattle.hr_session.specs.Lane.{StepTells}
+use Rattle.hr_promise.specs.Lane.{StepTells}
 use Rattle.hr_store.specs.Row.{RowState}
 use Rattle.hr_store.specs.Store.{row_of_job}
 use Rattle.hr_run.specs.Part.{CallsLane}

@@ -10,8 +10,8 @@ ghost use Rattle.hr_board.specs.Over.{IsOver};
 ghost use Rattle.hr_board.specs.Plain.{IsLawful, new_board};
 ghost use Rattle.hr_line.specs.Run.{IsOpening};
 ghost use Rattle.hr_line.specs.State.{AreSound, Link, State};
-ghost use Rattle.hr_session.specs.Holds.{LaneHolds, LaneRuns};
-ghost use Rattle.hr_session.specs.Lane.{IsLaneSound};
+ghost use Rattle.hr_promise.specs.Holds.{LaneHolds, LaneRuns};
+ghost use Rattle.hr_promise.specs.Lane.{IsLaneSound};
 ghost use Rattle.hr_store.specs.Row.{RowState};
 ghost use Rattle.hr_store.specs.Store.{row_of_job};
 ghost use Rattle.hr_run.specs.Claims.{AllConfirmed, AllDone, IsFinished, LanesHold, LanesRun, OneEach, OneFinal, RowsTell, TellsWord};
@@ -34,7 +34,7 @@ use hr_queue::{
     a_queue_agrees_with_its_board, a_turn_taken_back_is_out_no_more, done_jobs_were_over,
     gains_add_up, what_calls_gain,
 };
-use hr_session::steps_come_to_an_end;
+use hr_promise::steps_come_to_an_end;
 use hr_store::{
     a_taken_hook_is_put, hooks_reach_one_row, is_among_says_contains, row_ends_its_job,
     sweep_drops_rows_that_are_over,

@@ -1,6 +1,6 @@
 -- The newest entries so far say no cause of the job.
 use Rattle.std.proofs.Common.{◌≡◌, drop, reverse}
-use Rattle.hr_session.specs.Answer.{cause_in}
+use Rattle.hr_promise.specs.Answer.{cause_in}
 use Rattle.hr_core.proofs.journal.find_cause.Given as goal
 
 abbrev pub invariant-loop-back : goal.invariant-loop-back

@@ -1,5 +1,5 @@
 use Rattle.std.proofs.Common.{◌∙◌, ap, map, sym}
-use Rattle.hr_session.specs.Answer.{tag_told}
+use Rattle.hr_promise.specs.Answer.{tag_told}
 use Rattle.hr_core.proofs.TagsLemmas.{is_found}
 use Rattle.hr_core.proofs.tags.tell_tags.Goals as goal
 

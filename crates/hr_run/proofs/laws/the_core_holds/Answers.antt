@@ -1,8 +1,8 @@
 use Rattle.std.proofs.Common.{◌≡◌, sym, subst, ◌∙◌}
 use Rattle.std.specs.Prelude.{Some}
 use Rattle.hr_line.specs.State.{State}
-use Rattle.hr_session.specs.Holds.{LaneRuns}
-use Rattle.hr_session.specs.Lane.{IsLaneSound}
+use Rattle.hr_promise.specs.Holds.{LaneRuns}
+use Rattle.hr_promise.specs.Lane.{IsLaneSound}
 use Rattle.hr_run.specs.State.{opening}
 use Rattle.hr_run.proofs.ListLemmas.{all_at}
 use Rattle.hr_run.proofs.PromiseLemmas.{opening_at}
