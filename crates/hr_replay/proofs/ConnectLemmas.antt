@@ -192,6 +192,12 @@ opens_in regs sources dests lane eight two is =
       apart = subst (λ (links : List Link). AreApart links) (sym two) (dests_apart regs eight);
     })
 
+-- a core that opens with one lane
+pub opened_with : (lanes old : List State) (lane : State) (others : List Link) (plan : Option (List TaskSpec)) (jobs : ℕ) (s : CoreState)
+    → old ≡ [] → lanes ≡ old ++ lane ∷ [] → s ≡ opening lanes others plan jobs → s ≡ opening (lane ∷ []) others plan jobs
+opened_with lanes old lane others plan jobs s none more is =
+    is ∙ ap (λ (x : List State). opening x others plan jobs) (more ∙ ap (λ (x : List State). x ++ lane ∷ []) none)
+
 first_content : (setups : Setups) (m : Mem) → length (registries_of setups) ≡ 8
     → (get_or (registries_of setups) 0 m).content ≡ (setup_in setups 1).content
 first_content [] m eight = absurd (omega (arith, eight))

@@ -129,9 +129,9 @@ module _ (laws : Laws) (setups : Setups) (jobs : ℕ) (eight : length (registrie
       (sound_behind front (first_core setups jobs) ends.before ends.said sound ends.runs) ends.sound ends.does.0
 
 all_succeeded : (s : CoreState) (status : ℕ) → HasStatus s status → status ≡ 0 → ExecsSucceed s
-all_succeeded s status has zero = elim has [
+all_succeeded s status has at_0 = elim has [
   | inl done ↦ done.0
-  | inr failed ↦ let seven = failed.1 in absurd (omega (arith, zero, seven))
+  | inr failed ↦ let seven = failed.1 in absurd (omega (arith, at_0, seven))
 ]
 
 pub replayed : Laws → (text : ByteList) (lines : Lines) (opened : Opened) (kept : Ending) (said : Text) (status : ℕ) → IsReading text lines
@@ -155,9 +155,9 @@ replayed laws text lines opened kept said status reading whole opens eight runs 
       always = λ front behind answers mid split ran. reliable laws setups opened.jobs few sound front answers mid ran;
       done = λ front behind answers mid split ran. done_behind laws setups opened.jobs few sound front answers mid ran;
       reliable = reliable laws setups opened.jobs few sound opened.events run.told run.after run.runs;
-      copied = λ zero job row there.
+      copied = λ at_0 job row there.
           laws.copied run.after job row (holds laws setups opened.jobs few sound opened.events run.told run.after run.runs)
-          (all_succeeded run.after status run.ends zero) there;
+          (all_succeeded run.after status run.ends at_0) there;
       arrives = well;
       canonical = λ are one listed asks. well (laws.canonical text lines setups reading opens.opens are one) listed asks;
     }

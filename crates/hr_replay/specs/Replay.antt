@@ -1,5 +1,5 @@
 -- What running a script gives. (Our own.)
-use Rattle.std.specs.Prelude.{◌≡◌, ◌⊎◌, List, ◌∷◌, [], ◌++◌, Option, Some, None, IfSome, IsSome, ℕ}
+use Rattle.std.specs.Prelude.{◌≡◌, ◌⊎◌, List, ◌∷◌, [], ◌++◌, Some, None, IsSome, ℕ}
 use Rattle.std.specs.List.{Contains}
 use Rattle.hr_base.specs.Bytes.{ByteList, Text}
 use Rattle.hr_event.specs.declared.event.Event.{Event}
