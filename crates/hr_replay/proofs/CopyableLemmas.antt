@@ -26,7 +26,6 @@ use Rattle.hr_adapter.proofs.ContentLaws.{name_itself}
 use Rattle.hr_copyable.specs.Copyable.{HoldsTags, IsCopyable, IsHeld, OpensWith}
 use Rattle.hr_journal.proofs.ListLaws.{contains_cases, contains_first, contains_later, each_then}
 use Rattle.hr_journal.specs.Origin.{Holds}
-use Rattle.hr_lane.specs.State.{new_lane}
 use Rattle.hr_line.specs.Run.{IsDestination}
 use Rattle.hr_line.specs.State.{Link, State, link_at}
 use Rattle.hr_memreg.specs.Mem.{seen_of}
@@ -38,7 +37,7 @@ use Rattle.hr_run.specs.State.{CoreState}
 use Rattle.hr_promise.specs.Arrives.{TaskCanArrive}
 use Rattle.hr_whole.specs.Texts.{IsOpenText, OpensWithOneText}
 use Rattle.hr_whole.specs.Whole.{TagIsWhole}
-use Rattle.hr_replay.specs.Connect.{TARGET, dests_of, first_lane, sources_of}
+use Rattle.hr_replay.specs.Connect.{TARGET, first_lane}
 use Rattle.hr_replay.specs.Replay.{EndsWell, HasStatus, IsListed, OpensClear}
 use Rattle.hr_replay.proofs.ConnectLemmas.{of_eight}
 

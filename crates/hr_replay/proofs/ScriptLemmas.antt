@@ -1,5 +1,5 @@
 -- What a text stands for, put together from its lines, its opening and its run.
-use Rattle.std.proofs.Common.{◌≡◌, ◌<◌, ℕ, zero, suc, List, [], ◌∷◌, ◌++◌, length, get_or, slice_get, inl, inr, refl, sym, ap, subst, arith}
+use Rattle.std.proofs.Common.{◌≡◌, ◌<◌, ℕ, zero, suc, List, [], ◌∷◌, ◌++◌, length, get_or, slice_get, inl, inr, refl, ap, subst, arith}
 use Rattle.std.specs.Prelude.{Option, Some, None, IfSome, Ok}
 use Rattle.std.specs.List.{AllByRecursion, Contains}
 use Rattle.hr_base.specs.Bytes.{ByteList, Text}
@@ -7,13 +7,11 @@ use Rattle.hr_event.specs.declared.event.Event.{Event}
 use Rattle.hr_event.specs.declared.event.Event.TheVariants.{Finish}
 use Rattle.hr_event.specs.declared.told.Told.{Told}
 use Rattle.hr_event.specs.declared.task.TaskSpec.{TaskSpec}
-use Rattle.hr_adapter.specs.Content.{Content}
-use Rattle.hr_adapter.specs.Reg.{Reg}
 use Rattle.hr_copyable.specs.Canonical.{AreCanonical}
 use Rattle.hr_copyable.specs.Copyable.{IsCopyable}
 use Rattle.hr_copyable.specs.LineTexts.{StoreOneText}
 use Rattle.hr_line.specs.Run.{IsOpening}
-use Rattle.hr_line.specs.State.{Link, State, link_at}
+use Rattle.hr_line.specs.State.{Link, State}
 use Rattle.hr_memreg.specs.Mem.{Mem}
 use Rattle.hr_opening.specs.Opening.{Opens, after_lines}
 use Rattle.hr_opening.specs.Plan.{plan_of}

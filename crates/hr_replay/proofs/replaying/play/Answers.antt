@@ -1,4 +1,4 @@
-use Rattle.std.proofs.Common.{List, true, false, ap, refl, ◌∙◌}
+use Rattle.std.proofs.Common.{List, ap, refl, ◌∙◌}
 use Rattle.std.specs.Prelude.{map}
 use Rattle.std.specs.List.{list_all}
 use Rattle.std.proofs.lemmas.List.Elements.{All-same}
