@@ -31,7 +31,8 @@ fn write_stand(
     rev: u8,
     status: Status,
 ) -> Result<(), Memory> {
-    writeln!(said, "{word} {}.{rev} {}", job.0, word_of(status))
+    writeln!(said, "{word} {}.{rev} {}", job.0, word_of(status))?;
+    Ok(())
 }
 
 /// Writes each execution that is kept, and below it its rows with the hooks that they received.
@@ -55,7 +56,8 @@ pub fn write_rows(alloc: Global, said: &mut String, kept: &Ending) -> Result<(),
 fn write_execution(said: &mut String, view: &ExecView) -> Result<(), Memory> {
     write!(said, "execution {} {} total {}", view.exec.0, status_of(view.status), view.total)?;
     write!(said, " succeed {} failed {}", view.succeed, view.failed)?;
-    writeln!(said, " in_progress {} stopped {}", view.in_progress, view.stopped)
+    writeln!(said, " in_progress {} stopped {}", view.in_progress, view.stopped)?;
+    Ok(())
 }
 
 /// Writes of each job that is kept its last revision that was opened, with the status of that.
