@@ -67,12 +67,7 @@ fn call(
     Ok(kept)
 }
 
-fn write_shown(
-    alloc: Global,
-    said: &mut String,
-    show: Show,
-    kept: &Ending,
-) -> Result<(), Memory> {
+fn write_shown(alloc: Global, said: &mut String, show: Show, kept: &Ending) -> Result<(), Memory> {
     match show {
         Show::Journal => write_journal(said, kept),
         Show::Causes => write_causes(said, kept),

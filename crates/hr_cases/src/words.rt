@@ -54,9 +54,19 @@ pub fn write_rows(alloc: Global, said: &mut String, kept: &Ending) -> Result<(),
 }
 
 fn write_execution(said: &mut String, view: &ExecView) -> Result<(), Memory> {
-    write!(said, "execution {} {} total {}", view.exec.0, status_of(view.status), view.total)?;
+    write!(
+        said,
+        "execution {} {} total {}",
+        view.exec.0,
+        status_of(view.status),
+        view.total
+    )?;
     write!(said, " succeed {} failed {}", view.succeed, view.failed)?;
-    writeln!(said, " in_progress {} stopped {}", view.in_progress, view.stopped)?;
+    writeln!(
+        said,
+        " in_progress {} stopped {}",
+        view.in_progress, view.stopped
+    )?;
     Ok(())
 }
 

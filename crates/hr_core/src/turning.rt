@@ -16,9 +16,9 @@ use hr_base::{JobNo, Memory};
 use hr_board::Board;
 use hr_event::{Entry, TaskSpec, Told, Turn};
 use hr_line::Stepped;
+use hr_promise::steps_come_to_an_end;
 use hr_queue::{Settled, Taken};
 use hr_run::core_stays_ready;
-use hr_promise::steps_come_to_an_end;
 use std::alloc::Global;
 
 impl<A: Registry> Core<A> {

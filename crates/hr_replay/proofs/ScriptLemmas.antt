@@ -143,7 +143,7 @@ replayed laws text lines opened kept said status reading whole opens eight runs 
     let few : length (registries_of setups) ≡ 8 = subst (λ (xs : List Mem). length xs ≡ 8) opens.regs eight in
     let well : IsCopyable setups → IsListed setups → AskForAll opened.events → EndsWell run.after status =
     λ can listed asks.
-        ends_well run.after status run.ends (arrives laws setups opened.jobs few sound opened.events run.told run.after run.runs can listed asks) in
+    ends_well run.after status run.ends (arrives laws setups opened.jobs few sound opened.events run.told run.after run.runs can listed asks) in
     record {
       opens = setups;
       events = opened.events;

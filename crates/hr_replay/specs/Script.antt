@@ -11,12 +11,12 @@ use Rattle.hr_script.specs.declared.refusal.Why.{Why}
 -- the text is a script: its registries open so, these are its events, and there may be so many jobs
 pub record IsScript (text : ByteList) (opens : Setups) (events : List Event) (jobs : ℕ) : Type 0
   where
-  pub lines : Lines
-  pub reading : IsReading text lines
-  pub whole : lines.fault ≡ None
-  pub opened : after_lines no_setups lines.lines ≡ Ok opens
-  pub goes : events ≡ events_in lines.lines
-  pub limits : jobs ≡ jobs_said jobs_unsaid lines.lines
+    pub lines : Lines
+    pub reading : IsReading text lines
+    pub whole : lines.fault ≡ None
+    pub opened : after_lines no_setups lines.lines ≡ Ok opens
+    pub goes : events ≡ events_in lines.lines
+    pub limits : jobs ≡ jobs_said jobs_unsaid lines.lines
 
 -- the line with this number is the first that is bad, since a tag that it names isn't there
 pub record LacksTag (text : ByteList) (number : ℕ) : Type 0 where

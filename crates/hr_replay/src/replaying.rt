@@ -24,12 +24,12 @@ use hr_lane::Lane;
 use hr_memreg::MemRegistry;
 use hr_opening::{OpenRefused, Opened, open_script, plan, some_jobs_may_be, what_is_read_is_fit};
 use hr_print::print_all;
-use hr_script::{Fault, Lines, SCRIPT_LIMIT, read_lines};
 use hr_run::{
-    answers_have_texts, core_stays_ready, done_after_finish, each_end_has_one_hook, hooks_are_covered,
-    one_final_status, revisions_have_sources, rows_tell_words, the_core_holds,
+    answers_have_texts, core_stays_ready, done_after_finish, each_end_has_one_hook,
+    hooks_are_covered, one_final_status, revisions_have_sources, rows_tell_words, the_core_holds,
     what_can_be_copied_arrives, what_succeeded_was_copied,
 };
+use hr_script::{Fault, Lines, SCRIPT_LIMIT, read_lines};
 use std::alloc::Global;
 
 /// What running a script gave.

@@ -30,11 +30,11 @@ use hr_line::{
     lanes_stay_in_order, revisions_end_once, tags_are_finished_as_they_were_read,
     tags_of_runs_are_complete,
 };
+use hr_promise::steps_come_to_an_end;
 use hr_queue::{
     a_queue_agrees_with_its_board, a_turn_taken_back_is_out_no_more, done_jobs_were_over,
     gains_add_up, what_calls_gain,
 };
-use hr_promise::steps_come_to_an_end;
 use hr_store::{
     a_taken_hook_is_put, hooks_reach_one_row, is_among_says_contains, row_ends_its_job,
     sweep_drops_rows_that_are_over,

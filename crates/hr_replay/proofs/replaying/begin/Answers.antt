@@ -30,7 +30,7 @@ returns-clause-ready c =
     let dests = links_of seen_of c.in_ok-sources.field-0.dests in
     let others = links_of seen_of c.new-2.result in
     let opened = opened_with c.push.new.self c.new-lanes.result c.new.result others c.in_ok-plan.plan c.args.jobs c.in_ok-core.core
-        c.new-lanes.ensures c.in_ok-push.ensures.ok c.in_ok-core.ensures in
+    c.new-lanes.ensures c.in_ok-push.ensures.ok c.in_ok-core.ensures in
     subst IsReady (sym opened) (c.core_stays_ready.ensures.opens (c.new.result ∷ []) others c.in_ok-plan.plan c.args.jobs
     (opens_in c.args.regs sources dests c.new.result c.requires.eight c.in_ok-sources.ensures.dests c.new.ensures, tt)
     (plan_tries_in c.args.regs c.requires.eight c.index-view-0.result.content c.in_ok-plan.plan c.in_ok-plan.ensures)

@@ -21,7 +21,7 @@ print_all-requires c =
 pub returns : goal.returns
 returns c =
     let all = c.all_succeed.ensures ∙ ap (λ (xs : List ExecView). list_all view_succeeds xs) (c.view-2.ensures ∙ c.in_ok-views.ensures
-        ∙ ap (λ (s : StoreState). map exec_view s.kept) c.store.ensures) in record {
+    ∙ ap (λ (s : StoreState). map exec_view s.kept) c.store.ensures) in record {
       told = c.in_ok-told.told;
       after = c.take_events.new.core;
       runs = c.in_ok-told.ensures;
