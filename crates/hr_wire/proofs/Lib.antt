@@ -1,0 +1,5 @@
+mod BackLemmas
+mod CallLemmas
+mod LineLemmas
+mod MediaLemmas
+mod RangeLemmas

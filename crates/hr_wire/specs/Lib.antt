@@ -1,0 +1,5 @@
+pub mod Call
+pub mod Line
+pub mod Media
+pub mod Range
+pub mod Request
