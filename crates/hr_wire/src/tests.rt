@@ -37,42 +37,68 @@ fn status_of(alloc: Global, request: &Request) -> u16 {
     }
 }
 
-// The lines that RFC 9110 and OCI Distribution 1.1 give.
-#[test]
-fn calls_have_their_lines(rt: HostRuntime) -> Result<(), Fail> {
-    let alloc = rt.alloc();
-    let chunk = Call::Chunk {
+// A chunk of three bytes behind ten others.
+fn chunk(alloc: Global) -> Result<Call, Fail> {
+    Ok(Call::Chunk {
+        at: Bytes::of(alloc, b"/v2/a/blobs/uploads/1?x=y")?,
+        from: Some(10),
+        bytes: Bytes::of(alloc, b"abc")?,
+    })
+}
+
+// The request of that chunk.
+fn chunk_request(alloc: Global) -> Result<Request, Fail> {
+    let call = Call::Chunk {
         at: Bytes::of(alloc, b"/v2/a/blobs/uploads/1?x=y")?,
         from: Some(10),
         bytes: Bytes::of(alloc, b"abc")?,
     };
-    let look = Call::HeadManifest {
+    Ok(request_of(alloc, &call, b"r.example:5000")?)
+}
+
+// The request of a look at a manifest.
+fn look_request(alloc: Global) -> Result<Request, Fail> {
+    let call = Call::HeadManifest {
         repo: read_name(alloc, b"a")?.ok_or("a name")?,
         reference: read_reference(alloc, b"v1")?.ok_or("a tag")?,
     };
-    let rows: [(&Call, usize, &str, &str); 5] = [
-        (&chunk, 0, "Host", "r.example:5000"),
-        (&chunk, 1, "Content-Type", "application/octet-stream"),
-        (&chunk, 2, "Content-Range", "10-12"),
-        (&chunk, 3, "Connection", "close"),
-        (
-            &look,
-            1,
-            "Accept",
-            "application/vnd.oci.image.manifest.v1+json, application/vnd.oci.image.index.v1+json, application/vnd.docker.distribution.manifest.v2+json, application/vnd.docker.distribution.manifest.list.v2+json",
-        ),
-    ];
-    for (call, at, name, value) in rows {
-        let request = request_of(alloc, call, b"r.example:5000")?;
-        let head = request.heads.view().get(at).ok_or("a line")?;
-        assert_eq!(rt; head.name.view(), name.as_bytes(), "{name}");
-        assert_eq!(rt; head.value.view(), value.as_bytes(), "{name}");
-        assert_eq!(rt;
-            call_of(alloc, &request).ok().as_ref(),
-            Some(call),
-            "{name}"
-        );
+    Ok(request_of(alloc, &call, b"r.example:5000")?)
+}
+
+// The field lines of a request, each with a line end.
+fn lines_of(alloc: Global, request: &Request) -> Result<Bytes, Fail> {
+    let mut text = Vec::new(alloc);
+    for head in request.heads.view() {
+        text.extend_from_slice(head.name.view())?;
+        text.extend_from_slice(b": ")?;
+        text.extend_from_slice(head.value.view())?;
+        text.push(b'\n')?;
     }
+    Ok(Bytes::from(text))
+}
+
+const CHUNK_LINES: &str =
+    "Host: r.example:5000\nContent-Type: application/octet-stream\nContent-Range: 10-12\nConnection: close\n";
+
+const LOOK_LINES: &str =
+    "Host: r.example:5000\nAccept: application/vnd.oci.image.manifest.v1+json, application/vnd.oci.image.index.v1+json, application/vnd.docker.distribution.manifest.v2+json, application/vnd.docker.distribution.manifest.list.v2+json\nConnection: close\n";
+
+// The lines that RFC 9110 and OCI Distribution 1.1 give.
+#[test]
+fn calls_have_their_lines(rt: HostRuntime) -> Result<(), Fail> {
+    let alloc = rt.alloc();
+    let chunk = lines_of(alloc, &chunk_request(alloc)?)?;
+    assert_eq!(rt; chunk.view(), CHUNK_LINES.as_bytes());
+    let look = lines_of(alloc, &look_request(alloc)?)?;
+    assert_eq!(rt; look.view(), LOOK_LINES.as_bytes());
+    Ok(())
+}
+
+#[test]
+fn a_chunk_is_read_back(rt: HostRuntime) -> Result<(), Fail> {
+    let alloc = rt.alloc();
+    let request = chunk_request(alloc)?;
+    assert_eq!(rt; call_of(alloc, &request).ok(), Some(chunk(alloc)?));
     Ok(())
 }
 
