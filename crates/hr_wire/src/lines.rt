@@ -3,7 +3,7 @@ ghost use Rattle.std.specs.Prelude.{◌≡◌, ◌∷◌, ◌++◌, [], OnOk};
 ghost use Rattle.std.specs.Option.{option_copied};
 ghost use Rattle.hr_frame.specs.Named.{named_value, values_named};
 ghost use Rattle.hr_route.specs.Found.{IsFound, as_list};
-ghost use Rattle.hr_wire.specs.Line.{line};
+ghost use Rattle.hr_wire.specs.Line.{line, only};
 
 use hr_base::{Bytes, List, Memory};
 use hr_http1::Head;
@@ -19,6 +19,17 @@ pub(crate) fn find_line<'a>(heads: &'a [Head], name: &[u8]) -> Found<'a>
         found = found.with(value_named(head, name));
     }
     found
+}
+
+/// The value of the one line with this name, in any case.
+pub(crate) fn only_line<'a>(heads: &'a [Head], name: &[u8]) -> Option<&'a [u8]>
+    ensures { option_copied result ≡ only (values_named name.now heads.now) }
+{
+    match find_line(heads, name) {
+        Found::Absent => None,
+        Found::One(value) => Some(value),
+        Found::Many => None,
+    }
 }
 
 // The value of a line, where it has this name.

@@ -1,5 +1,5 @@
 //! Ranges of bytes, as uploads write them (OCI Distribution 1.1, "Pushing a blob in chunks").
-ghost use Rattle.std.specs.Prelude.{◌≡◌, IfOk, codes, length};
+ghost use Rattle.std.specs.Prelude.{◌≡◌, ◌<◌, ◌^◌, IfOk, IfSome, codes, length};
 ghost use Rattle.hr_frame.specs.Named.{values_named};
 ghost use Rattle.hr_wire.specs.Range.{first_of, from_asked, range_of, range_text};
 
@@ -27,7 +27,8 @@ pub(crate) fn range_text(alloc: Global, first: u64, last: u64) -> Result<Bytes, 
 /// The places of the first and of the last byte that a text writes, each below `2^63`, or `None` where
 /// it writes none.
 pub(crate) fn read_range(text: &[u8]) -> Option<(u64, u64)>
-    ensures { result ≡ range_of text.now }
+    ensures told { result ≡ range_of text.now }
+    ensures small { IfSome result (λ places. places.1 < 2 ^ 63) }
 {
     let (first, last) = cut(text, b'-');
     let last = last?;

@@ -1,5 +1,7 @@
 //! Requests as they are written and as they are read, where there is ample memory.
 
+mod replies;
+
 use crate::{call_of, request_of};
 use hr_base::{Bytes, List};
 use hr_call::{Call, read_name, read_reference};
