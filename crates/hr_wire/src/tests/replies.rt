@@ -1,6 +1,6 @@
 //! Replies as they are written and as they are read, where there is ample memory.
 
-use crate::{NotAnswer, answer_of, reply_of};
+use crate::{NotAnswer, answer_of, error_reply, reply_of};
 use hr_base::{Bytes, List};
 use hr_call::{Answer, Call, read_digest, read_name, read_reference, read_tag};
 use hr_http1::{Head, Reply};
@@ -187,5 +187,14 @@ fn a_page_of_tags_is_written_and_read_back(rt: HostRuntime) -> Result<(), Fail> 
         b"{\"name\":\"a\",\"tags\":[\"v1\",\"v2\"]}".as_slice()
     );
     assert_eq!(rt; answer_of(alloc, &call, &reply).ok(), Some(answer));
+    Ok(())
+}
+
+#[test]
+fn an_error_tells_no_causes(rt: HostRuntime) -> Result<(), Fail> {
+    let alloc = rt.alloc();
+    let reply = error_reply(alloc, 405)?;
+    assert_eq!(rt; reply.status, 405);
+    assert_eq!(rt; reply.body.view(), b"{\"errors\":[]}".as_slice());
     Ok(())
 }
