@@ -1,0 +1,11 @@
+mod AnswerLemmas
+mod BackLemmas
+mod CallLemmas
+mod EachLemmas
+mod GrammarLemmas
+mod LineLemmas
+mod ListingLemmas
+mod MediaLemmas
+mod PieceLemmas
+mod RangeLemmas
+mod SaidLemmas

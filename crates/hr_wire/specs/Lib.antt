@@ -1,0 +1,9 @@
+pub mod Answer
+pub mod Call
+pub mod Fitting
+pub mod Line
+pub mod Listing
+pub mod Media
+pub mod Range
+pub mod Reply
+pub mod Request
