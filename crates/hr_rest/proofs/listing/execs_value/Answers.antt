@@ -1,0 +1,20 @@
+use Rattle.std.proofs.Common.{map, reverse, sym, ap, ◌∙◌, arith, List}
+use Rattle.std.proofs.lemmas.Grind.{common_steps}
+use Rattle.serde_json.proofs.Views.{view-Array}
+use Rattle.serde_json.specs.Data.{Data}
+use Rattle.serde_json.specs.View.{view}
+use Rattle.serde_json.specs.declared.value.Value.{Value}
+use Rattle.hr_event.specs.declared.view.ExecView.{ExecView}
+use Rattle.hr_rest.specs.Value.{exec_value, list_value}
+use Rattle.hr_rest.proofs.ListingLemmas.{map_reverse}
+use Rattle.hr_rest.proofs.listing.execs_value.Goals as goal
+
+pub returns : goal.returns
+returns c =
+    view-Array c.reverse.new.self
+    ∙ ap list_value (
+      ap (λ (vs : List Value). map view vs) c.reverse.ensures.items
+      ∙ map_reverse view c.loop-exec.list.items
+      ∙ ap (λ (ds : List Data). reverse ds) (c.loop-exec.invariant ∙ ap (map exec_value) (grind (arith, common_steps)))
+      ∙ sym (map_reverse exec_value c.args.execs.now)
+    )
