@@ -62,8 +62,8 @@ rows_more (e ∷ es) views i d all more ordered told within is rows =
     let len = ap (λ (vs : List ExecView). length vs) told ∙ length-map (e ∷ es) exec_view in
     let inside : i < length (e ∷ es) = omega (arith, len, within) in
     let same : get_or views i d ≡ exec_view (get_or (e ∷ es) i e) =
-        get_or_default views i d (exec_view e) within
-        ∙ ap (λ vs. get_or vs i (exec_view e)) told ∙ seen_at i (e ∷ es) e in
+    get_or_default views i d (exec_view e) within
+    ∙ ap (λ vs. get_or vs i (exec_view e)) told ∙ seen_at i (e ∷ es) e in
     one_more (e ∷ es) i e all more ordered inside is
     (rows ∙ ap (λ (v : ExecView). tasks_in (exec_numbered v.exec.0 (e ∷ es))) same)
 

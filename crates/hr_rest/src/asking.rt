@@ -44,7 +44,13 @@ pub fn asked(alloc: Global, request: &Request) -> Result<Asked, Memory>
     let Some(way) = way_of(path) else {
         return Ok(UNKNOWN);
     };
-    asks_of(alloc, request.verb, way, query_in(behind), request.body.view())
+    asks_of(
+        alloc,
+        request.verb,
+        way,
+        query_in(behind),
+        request.body.view(),
+    )
 }
 
 // What stands behind the `?` of a target, which is empty where there is none.
@@ -79,16 +85,12 @@ fn policies_asked(verb: Verb) -> Asked
 {
     match verb {
         Verb::Get => Asked::Policies,
-        Verb::Head | Verb::Post | Verb::Put | Verb::Patch | Verb::Delete | Verb::Other => OTHER_VERB,
+        Verb::Head | Verb::Post | Verb::Put | Verb::Patch | Verb::Delete | Verb::Other =>
+            OTHER_VERB,
     }
 }
 
-fn executions_asked(
-    alloc: Global,
-    verb: Verb,
-    query: &[u8],
-    body: &[u8],
-) -> Result<Asked, Memory>
+fn executions_asked(alloc: Global, verb: Verb, query: &[u8], body: &[u8]) -> Result<Asked, Memory>
     ensures { IfOk result (λ asked. asked ≡ asks_of verb executions query.now body.now) }
 {
     match verb {
@@ -158,7 +160,8 @@ fn tasks_asked(verb: Verb, id: &[u8], query: &[u8]) -> Asked
 {
     match verb {
         Verb::Get => task_page_asked(id, query),
-        Verb::Head | Verb::Post | Verb::Put | Verb::Patch | Verb::Delete | Verb::Other => OTHER_VERB,
+        Verb::Head | Verb::Post | Verb::Put | Verb::Patch | Verb::Delete | Verb::Other =>
+            OTHER_VERB,
     }
 }
 

@@ -106,5 +106,8 @@ fn is_stopped(status: Status) -> bool
 fn is_unfinished(status: Status) -> bool
     ensures { result ≡ is_unfinished status }
 {
-    matches!(status, Status::Pending | Status::Scheduled | Status::Running)
+    matches!(
+        status,
+        Status::Pending | Status::Scheduled | Status::Running
+    )
 }

@@ -35,7 +35,11 @@ pub fn reply(alloc: Global, asked: &Asked, view: &Snapshot) -> Result<Reply, Mem
     match *asked {
         Asked::Policies => policies_reply(alloc, view.policies.view()),
         Asked::Start { policy } => {
-            start_reply(alloc, policy_numbered(view.policies.view(), policy), view.made)
+            start_reply(
+                alloc,
+                policy_numbered(view.policies.view(), policy),
+                view.made,
+            )
         }
         Asked::Executions { page, size } => executions_reply(alloc, execs, page, size),
         Asked::One { exec } => one_reply(alloc, view_numbered(execs, exec)),

@@ -25,7 +25,9 @@ fn answered(alloc: Global, request: Bytes, view: &Snapshot) -> Result<Vec<u8>, W
 
 fn request(alloc: Global, verb: &str, path: &str, body: &[u8]) -> Result<Bytes, Memory> {
     let len = body.len();
-    let head = format!(in alloc; "{verb} /api/v2.0/replication{path} HTTP/1.1\r\nContent-Length: {len}\r\n\r\n")?;
+    let head = format!(in alloc;
+        "{verb} /api/v2.0/replication{path} HTTP/1.1\r\nContent-Length: {len}\r\n\r\n"
+    )?;
     let mut text = head.into_bytes();
     text.extend_from_slice(body)?;
     Ok(Bytes::from(text))
@@ -103,7 +105,12 @@ fn requests_are_taken_or_refused_by_the_table(rt: HostRuntime) -> Result<(), Fai
         ("POST", "/policy", "", "404"),
         ("POST", "/executions", "{\"policy_id\":7}", "404"),
         ("POST", "/executions", "{\"policy_id\":2}", "412"),
-        ("POST", "/executions", " {\"x\":[1],\"policy_id\":0,\"policy_id\":1} ", "507"),
+        (
+            "POST",
+            "/executions",
+            " {\"x\":[1],\"policy_id\":0,\"policy_id\":1} ",
+            "507",
+        ),
         ("POST", "/executions", "{\"policy_id\":1.0}", "400"),
         ("POST", "/executions", "{\"policy_id\":4294967296}", "400"),
         ("POST", "/executions", "{\"id\":1}", "400"),
@@ -112,7 +119,12 @@ fn requests_are_taken_or_refused_by_the_table(rt: HostRuntime) -> Result<(), Fai
         ("PUT", "/executions", "", "405"),
         ("GET", "/executions?page=0", "", "400"),
         ("GET", "/executions?page=%31", "", "400"),
-        ("GET", "/executions?page=18446744073709551616&page=0&page_size=100", "", "200"),
+        (
+            "GET",
+            "/executions?page=18446744073709551616&page=0&page_size=100",
+            "",
+            "200",
+        ),
         ("GET", "/executions?page_size=0", "", "400"),
         ("GET", "/executions?page_size=101", "", "400"),
         ("GET", "/executions?page_size", "", "400"),
@@ -139,22 +151,36 @@ fn requests_are_taken_or_refused_by_the_table(rt: HostRuntime) -> Result<(), Fai
 fn replies_are_written_as_clients_read_them(rt: HostRuntime) -> Result<(), Fail> {
     let alloc = rt.alloc();
     let view = view(alloc)?;
-    let five = "{\"failed\":0,\"id\":5,\"in_progress\":1,\"policy_id\":1,\"start_time\":1700000000,\"status\":\"InProgress\",\"stopped\":0,\"succeed\":1,\"total\":2,\"trigger\":\"manual\"}";
-    let two = "{\"failed\":0,\"id\":2,\"in_progress\":1,\"policy_id\":1,\"start_time\":1700000000,\"status\":\"InProgress\",\"stopped\":0,\"succeed\":1,\"total\":2,\"trigger\":\"scheduled\"}";
+    let five =
+        "{\"failed\":0,\"id\":5,\"in_progress\":1,\"policy_id\":1,\"start_time\":1700000000,\"status\":\"InProgress\",\"stopped\":0,\"succeed\":1,\"total\":2,\"trigger\":\"manual\"}";
+    let two =
+        "{\"failed\":0,\"id\":2,\"in_progress\":1,\"policy_id\":1,\"start_time\":1700000000,\"status\":\"InProgress\",\"stopped\":0,\"succeed\":1,\"total\":2,\"trigger\":\"scheduled\"}";
     let newest = format!(in alloc; "[{five},{two}]")?;
-    let three = "[{\"dst_resource\":\"ns/img\",\"execution_id\":2,\"id\":3,\"revision\":1,\"src_resource\":\"a/img\",\"status\":\"Error\"}]";
-    let policies = "[{\"enabled\":true,\"id\":1,\"name\":\"p\"},{\"enabled\":false,\"id\":2,\"name\":\"a\\\"\u{fffd}\"}]";
+    let three =
+        "[{\"dst_resource\":\"ns/img\",\"execution_id\":2,\"id\":3,\"revision\":1,\"src_resource\":\"a/img\",\"status\":\"Error\"}]";
+    let policies =
+        "[{\"enabled\":true,\"id\":1,\"name\":\"p\"},{\"enabled\":false,\"id\":2,\"name\":\"a\\\"\u{fffd}\"}]";
     let rows: [(&str, &str, &str); 5] = [
         ("/policies", "X-Total-Count: 2\r\n", policies),
-        ("/executions?page_size=2&page_size=1", "X-Total-Count: 3\r\n", newest.as_str()),
+        (
+            "/executions?page_size=2&page_size=1",
+            "X-Total-Count: 3\r\n",
+            newest.as_str(),
+        ),
         ("/executions?page=2", "X-Total-Count: 3\r\n", "[]"),
         ("/executions/5", "", five),
-        ("/executions/2/tasks?page=2&page_size=1&x=y", "X-Total-Count: 2\r\n", three),
+        (
+            "/executions/2/tasks?page=2&page_size=1&x=y",
+            "X-Total-Count: 2\r\n",
+            three,
+        ),
     ];
     for (path, heads, body) in rows {
         let sent = answered(alloc, request(alloc, "GET", path, b"")?, &view)?;
         let len = body.len();
-        let text = format!(in alloc; "HTTP/1.1 200 OK\r\n{heads}Content-Length: {len}\r\n\r\n{body}")?;
+        let text = format!(in alloc;
+            "HTTP/1.1 200 OK\r\n{heads}Content-Length: {len}\r\n\r\n{body}"
+        )?;
         assert_eq!(rt; sent.as_slice(), text.as_bytes(), "{path}");
     }
     Ok(())
@@ -165,8 +191,13 @@ fn a_start_has_the_place_of_what_it_made(rt: HostRuntime) -> Result<(), Fail> {
     let alloc = rt.alloc();
     let mut view = view(alloc)?;
     view.made = Some(ExecNo(7));
-    let sent = answered(alloc, request(alloc, "POST", "/executions", b"{\"policy_id\":1}")?, &view)?;
-    let text = "HTTP/1.1 201 Created\r\nLocation: /api/v2.0/replication/executions/7\r\nContent-Length: 0\r\n\r\n";
+    let sent = answered(
+        alloc,
+        request(alloc, "POST", "/executions", b"{\"policy_id\":1}")?,
+        &view,
+    )?;
+    let text =
+        "HTTP/1.1 201 Created\r\nLocation: /api/v2.0/replication/executions/7\r\nContent-Length: 0\r\n\r\n";
     assert_eq!(rt; sent.as_slice(), text.as_bytes());
     Ok(())
 }
@@ -176,8 +207,14 @@ fn a_row_rises_to_the_first_greatest_mark(rt: HostRuntime) {
     let (error, scheduled) = (Mark::At(Status::Error), Mark::At(Status::Scheduled));
     let none = Mark::Unopened;
     let row = (0, Status::Running);
-    assert_eq!(rt; raise(row, &[error, scheduled, none, none]), (1, Status::Scheduled));
-    assert_eq!(rt; raise((0, Status::Stopped), &[error, none, none, none]), (0, Status::Stopped));
+    assert_eq!(rt;
+        raise(row, &[error, scheduled, none, none]),
+        (1, Status::Scheduled)
+    );
+    assert_eq!(rt;
+        raise((0, Status::Stopped), &[error, none, none, none]),
+        (0, Status::Stopped)
+    );
     assert_eq!(rt; raise(row, &[none; 4]), row);
 }
 
@@ -209,5 +246,25 @@ fn a_snapshot_is_taken_and_counted_anew(rt: HostRuntime) -> Result<(), Fail> {
     assert_eq!(rt; rows.len(), 2);
     assert_eq!(rt; rows.len() as u32, exec.total);
     assert_eq!(rt; recount(*exec, rows), *exec);
+    Ok(())
+}
+
+#[test]
+fn long_lists_and_long_bodies_are_taken(rt: HostRuntime) -> Result<(), Fail> {
+    let alloc = rt.alloc();
+    let mut view = view(alloc)?;
+    view.execs = List::new(alloc);
+    for number in 1..=10_000u32 {
+        view.execs.push(exec(number, Trigger::Manual))?;
+    }
+    let page = request(alloc, "GET", "/executions?page=100&page_size=100", b"")?;
+    let sent = answered(alloc, page, &view)?;
+    let head = "HTTP/1.1 200 OK\r\nX-Total-Count: 10000\r\nContent-Length: 14993\r\n\r\n";
+    let text = format!(in alloc; "{head}[{{\"failed\":0,\"id\":100,")?;
+    assert!(rt; sent.starts_with(text.as_bytes()));
+    let mut body = vec![in alloc; b' '; 16_777_201]?;
+    body.extend_from_slice(b"{\"policy_id\":1}")?;
+    let sent = answered(alloc, request(alloc, "POST", "/executions", &body)?, &view)?;
+    assert!(rt; sent.starts_with(b"HTTP/1.1 507 ".as_slice()));
     Ok(())
 }

@@ -14,8 +14,8 @@ returns c =
     let all : take c.loop-exec.exec-index c.args.execs.now ≡ c.args.execs.now = grind (arith, common_steps) in
     view-Array c.reverse.new.self
     ∙ ap list_value (
-      ap (λ (vs : List Value). map view vs) c.reverse.ensures.items
-      ∙ map_reverse view c.loop-exec.list.items
-      ∙ ap (λ (ds : List Data). reverse ds) (c.loop-exec.invariant ∙ ap (map exec_value) all)
-      ∙ sym (map_reverse exec_value c.args.execs.now)
+    ap (λ (vs : List Value). map view vs) c.reverse.ensures.items
+    ∙ map_reverse view c.loop-exec.list.items
+    ∙ ap (λ (ds : List Data). reverse ds) (c.loop-exec.invariant ∙ ap (map exec_value) all)
+    ∙ sym (map_reverse exec_value c.args.execs.now)
     )
