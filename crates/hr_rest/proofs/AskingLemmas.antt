@@ -1,6 +1,6 @@
 -- What requests ask for, and how they are refused.
 use Rattle.std.proofs.Common.{◌≡◌, ◌⊎◌, ◌<◌, ℕ, length, Option, Some, None, option_map, Result, Ok, Err, IfOk, refl, sym, ap, ◌∙◌, subst, inl, inr, arith}
-use Rattle.std.specs.Prelude.{codes, nat_le, option_and_then, if◌then◌else◌}
+use Rattle.std.specs.Prelude.{codes, option_and_then, if◌then◌else◌}
 use Rattle.std.proofs.lemmas.Bool.Decides.{leb_tells}
 use Rattle.hr_base.specs.Bytes.{ByteList, Text}
 use Rattle.hr_base.specs.declared.memory.Memory.{Memory}
@@ -11,7 +11,7 @@ use Rattle.hr_json.specs.Doc.{document_of}
 use Rattle.hr_json.specs.declared.doc.TheConstants.{DOC_LIMIT}
 use Rattle.hr_setting.specs.Member.{must, whole_in}
 use Rattle.hr_rest.specs.declared.number.TheConstants.{LAST_NUMBER}
-use Rattle.hr_rest.specs.Asking.{AsksNowhere, AsksThere, IsAsked, asks_of, executions_at, one_of, or_bad, policy_in, start_of, stop_of, tasks_at}
+use Rattle.hr_rest.specs.Asking.{IsAsked, asks_of, executions_at, one_of, or_bad, policy_in, start_of, stop_of, tasks_at}
 use Rattle.hr_rest.specs.Number.{id_in}
 use Rattle.hr_rest.specs.Path.{LeadsTo, Place, executions, one, policies, tasks}
 use Rattle.hr_rest.specs.Query.{paging_of, path_of, query_of}

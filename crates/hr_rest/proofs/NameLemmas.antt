@@ -1,5 +1,5 @@
 -- The names of repositories are ASCII.
-use Rattle.std.proofs.Common.{◌≡◌, ◌<◌, ℕ, true, ◌||◌, List, [], ◌∷◌, ◌++◌, codes, length, get_or, sym, subst, inl, inr, arith, lit<}
+use Rattle.std.proofs.Common.{◌≡◌, ◌<◌, ℕ, true, [], ◌∷◌, ◌++◌, length, get_or, sym, subst, inl, inr, arith, lit<}
 use Rattle.std.specs.List.{All, AllByRecursion}
 use Rattle.std.specs.Prelude.{IsTrue}
 use Rattle.std.specs.Str.{IsAscii}
@@ -11,7 +11,7 @@ use Rattle.std.proofs.lemmas.List.Elements.{All-from_recursion}
 use Rattle.std.proofs.lemmas.Str.{IsUtf8-from_ascii, utf8_lossy-IsUtf8}
 use Rattle.hr_base.specs.Bytes.{Text}
 use Rattle.hr_name.specs.Alphabet.{stands_in_run}
-use Rattle.hr_name.specs.Name.{IsComponent, IsDashes, IsName, IsRun, IsSeparator, component, dashes, dot, joined, path, run, underscore, underscores}
+use Rattle.hr_name.specs.Name.{IsComponent, IsName, IsSeparator, component, dashes, dot, joined, path, run, underscore, underscores}
 
 abbrev AreSmall : Text → Type 0
 AreSmall text = AllByRecursion (λ byte. byte < 128) text

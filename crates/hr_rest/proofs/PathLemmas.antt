@@ -1,5 +1,5 @@
 -- Where paths lead, by what stands behind their base.
-use Rattle.std.proofs.Common.{◌≡◌, ◌≢◌, ℕ, true, false, eqb, List, [], ◌∷◌, ◌++◌, drop, codes, MatchOption, Option, Some, None, refl, sym, ap, ◌∙◌, subst, inl, inr, arith}
+use Rattle.std.proofs.Common.{◌≡◌, ◌≢◌, ℕ, false, eqb, [], ◌∷◌, ◌++◌, drop, codes, MatchOption, Option, Some, None, refl, sym, ap, ◌∙◌, subst, inl, inr, arith}
 use Rattle.std.specs.List.{All}
 use Rattle.std.proofs.lemmas.Bool.Decides.{eqb_tells}
 use Rattle.std.proofs.lemmas.List.{append_cancel_left, append_cancel_right}
@@ -7,7 +7,7 @@ use Rattle.std.proofs.lemmas.List.Elements.{All-cons, All-nil, All-head, All-tai
 use Rattle.hr_base.specs.Bytes.{Text}
 use Rattle.hr_text.specs.Cutting.{cut_at}
 use Rattle.hr_text.proofs.CutLaws.{cut_at_front}
-use Rattle.hr_rest.specs.Path.{LeadsBehind, LeadsTo, Place, executions, one, place_in, policies, rest_text, tasks}
+use Rattle.hr_rest.specs.Path.{LeadsBehind, LeadsTo, Place, executions, one, place_in, policies, tasks}
 use Rattle.hr_rest.specs.declared.path.Way.{Way}
 
 abbrev IsPlain : Text → Type 0

@@ -24,7 +24,8 @@ id_in text = option_and_then (passing (λ n. nat_le 1 n && nat_le n LAST_NUMBER)
 -- the number of a page, from 1; one past the last number that an execution can have counts as that
 abbrev pub page_in : Text → Option ℕ
 page_in text =
-    option_map (λ n. min n LAST_NUMBER) (option_and_then (passing (λ n. nat_le 1 n)) (number_in text))
+    option_map (λ n. min n LAST_NUMBER)
+    (option_and_then (passing (λ n. nat_le 1 n)) (number_in text))
 
 -- how many items a page has
 abbrev pub size_in : Text → Option ℕ

@@ -5,8 +5,8 @@ use Rattle.hr_base.specs.Bytes.{Text}
 use Rattle.hr_rest.specs.declared.path.Way.{Way}
 use Rattle.hr_rest.specs.declared.path.Way.TheVariants as way
 
--- where a path leads: to the policies, to the executions, to one of these, or to its tasks; with the
--- text that stands for its number
+-- where a path leads: to the policies, to the executions, to one of these, or to its tasks; with
+-- the text that stands for its number
 pub data Place : Type 0 where
   policies : Place
   executions : Place

@@ -1,5 +1,5 @@
--- The queries of targets (RFC 3986, section 3.4; WHATWG URL, "application/x-www-form-urlencoded"), of
--- whose repeated keys the first counts.
+-- The queries of targets (RFC 3986, section 3.4; WHATWG URL, "application/x-www-form-urlencoded").
+-- Of a repeated key the first counts.
 use Rattle.std.specs.Prelude.{ℕ, List, [], ◌∷◌, codes, Option, Some, None, unwrap_or, if◌then◌else◌}
 use Rattle.std.specs.Str.{bytes_eq}
 use Rattle.hr_base.specs.Bytes.{Text}

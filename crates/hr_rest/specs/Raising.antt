@@ -1,12 +1,12 @@
--- A row that is raised by the marks of its job's revisions, since hooks may still be under way. (Our
--- own.)
+-- A row that is raised by the marks of its job's revisions, since hooks may still be under way.
+-- (Our own.)
 use Rattle.std.specs.Prelude.{ℕ, suc, List, [], ◌∷◌}
 use Rattle.hr_base.specs.Merge.{first_greatest, greater_of}
 use Rattle.hr_base.specs.declared.status.Mark.{Mark}
 use Rattle.hr_base.specs.declared.status.Mark.TheVariants.{Unopened, At}
 use Rattle.hr_base.specs.declared.status.Status.{Status}
 
--- the revisions that were opened, each with its status, where these are the marks from a revision on
+-- the revisions that were opened, each with its status, by the marks from a revision on
 abbrev pub opened : ℕ → List Mark → List (ℕ × Status)
 opened rev [] = []
 opened rev (Unopened ∷ marks) = opened (suc rev) marks

@@ -1,8 +1,8 @@
 -- The JSON values of replies, with the members of each object in the order of their bytes. (After
 -- Harbor's replication API.)
-use Rattle.std.specs.Prelude.{ℕ, List, map, codes}
+use Rattle.std.specs.Prelude.{ℕ, List, codes}
 use Rattle.std.specs.Str.Lossy.{utf8_lossy}
-use Rattle.serde_json.specs.Data.{Data, boolean, number, string, array, object, no_members, member, unsigned}
+use Rattle.serde_json.specs.Data.{Data, number, string, array, object, no_members, member, unsigned}
 use Rattle.serde_json.specs.View.{items_of}
 use Rattle.hr_base.specs.Bytes.{Text}
 use Rattle.hr_base.specs.declared.status.Status.{Status}

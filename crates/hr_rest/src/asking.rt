@@ -7,8 +7,8 @@
 //! | `/executions/ID` | `GET`, `PUT` | |
 //! | `/executions/ID/tasks` | `GET` | `page`, `page_size` |
 //!
-//! The verb is looked at before the number, the query and the body. Other keys, and other members of a
-//! body than `policy_id`, are passed over.
+//! The verb is looked at before the number, the query and the body. Other keys, and other members of
+//! a body than `policy_id`, are passed over.
 ghost use Rattle.std.specs.Prelude.{◌≡◌, [], IfOk, codes, option_copied, option_map, unwrap_or};
 ghost use Rattle.hr_base.specs.Bytes.{ByteList, Text};
 ghost use Rattle.hr_json.specs.Doc.{content_of};

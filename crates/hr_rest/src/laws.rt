@@ -33,16 +33,16 @@ pub fn a_request_is_refused_in_three_ways()
         → (status ≡ 400) ⊎ (status ≡ 404) ⊎ (status ≡ 405) }
 {}
 
-/// A law: the items of a page and what stands behind them are what stands behind the pages before, so
-/// that the pages of a list, one after the other, are the list.
+/// A law: the items of a page and what stands behind them are what stands behind the pages before:
+/// the pages of a list, one after the other, are the list.
 pub fn pages_follow_one_another<T>()
     ensures { (page size : ℕ) (items : List T) → 1 ≤ page
         → page_of page size items ++ drop (before_page (page + 1) size) items
         ≡ drop (before_page page size) items }
 {}
 
-/// A law: a snapshot of a store has the execution of a number where the store keeps it, and all of its
-/// rows.
+/// A law: a snapshot of a store has the execution of a number where the store keeps it, and all of
+/// its rows.
 pub fn a_snapshot_has_what_is_kept()
     ensures exec { (number : ℕ) (execs : List ExecState)
         → view_numbered number (map exec_view execs)

@@ -1,5 +1,6 @@
-//! The REST front as functions of values: what a request asks for, a snapshot of the store and of the
-//! policies, and the reply that it gives. (After Harbor's replication API.) Start with `replying`.
+//! The REST front as functions of values: what a request asks for, a snapshot of the store and of
+//! the policies, and the reply that it gives. (After Harbor's replication API.) Start with
+//! `replying`.
 #![tactic(auto)]
 
 mod asking;

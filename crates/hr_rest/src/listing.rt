@@ -68,8 +68,8 @@ pub(crate) fn rows_value(
     Ok((Value::Array(list), seen))
 }
 
-// Whether a row is one of the execution and stands on the page, where so many of its rows stand before
-// it, and before the page.
+// Whether a row is one of the execution and stands on the page, where so many of its rows stand
+// before it, and before the page.
 fn is_shown(own: bool, seen: usize, first: usize, size: u32) -> bool
     ensures { result ≡ own && is_on_page seen first size }
 {

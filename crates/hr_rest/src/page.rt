@@ -9,8 +9,8 @@ pub(crate) fn before_page(page: u32, size: u32) -> usize
     page.saturating_sub(1) as usize * size as usize
 }
 
-/// The items of a page of a list that goes from the last item to the first, in the order in which they
-/// stand here.
+/// The items of a page of a list that goes from the last item to the first, in the order in which
+/// they stand here.
 pub(crate) fn page_from_last<T>(items: &[T], page: u32, size: u32) -> &[T]
     ensures { reverse result.now ≡ page_of page size (reverse items.now) }
 {

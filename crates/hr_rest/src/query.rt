@@ -1,5 +1,5 @@
-//! The queries of targets (RFC 3986, section 3.4; WHATWG URL, "application/x-www-form-urlencoded"), by
-//! their pairs as they stand there. Of a repeated key the first counts.
+//! The queries of targets (RFC 3986, section 3.4; WHATWG URL, "application/x-www-form-urlencoded"),
+//! by their pairs as they stand there. Of a repeated key the first counts.
 ghost use Rattle.std.specs.Prelude.{◌≡◌, codes, option_copied};
 ghost use Rattle.hr_rest.specs.Query.{page_by, paging_of, size_by, value_in, value_of};
 
@@ -9,8 +9,8 @@ use hr_text::cut;
 // How many items a page has where a query doesn't say it.
 const PAGE: u32 = 10;
 
-/// The page that a query asks for, by its keys `page` and `page_size`: its number, from 1, and how many
-/// items it has. `None` where one of them is bad.
+/// The page that a query asks for, by its keys `page` and `page_size`: its number, from 1, and how
+/// many items it has at most. `None` where one of them is bad.
 pub(crate) fn paging_of(query: &[u8]) -> Option<(u32, u32)>
     ensures { result ≡ paging_of query.now }
 {

@@ -5,9 +5,9 @@ ghost use Rattle.hr_rest.specs.Raising.{raised, raised_by};
 
 use hr_base::{Mark, Status};
 
-/// A row, which is a revision from 0 to 3 with its status, raised by the marks of the revisions 0 to 3
-/// of its job: the first greatest of the row and of the revisions that were opened. A board may know
-/// more than the hooks that were received.
+/// A row, which is a revision from 0 to 3 with its status, raised by the marks of the revisions 0 to
+/// 3 of its job: the first greatest of the row and of the revisions that were opened. A board may
+/// know more than the hooks that were received.
 pub fn raise(row: (u8, Status), marks: &[Mark; 4]) -> (u8, Status)
     ensures { result ≡ raised row marks.now }
 {

@@ -2,14 +2,16 @@
 //!
 //! | Asked | Reply |
 //! |---|---|
-//! | policies | 200, all in their order, with `X-Total-Count` |
-//! | a start | 201 with the `Location` of the execution; else 404 for an unknown policy, 412 for one that is off, 507 where there was no room |
-//! | executions | 200, a page, the newest first, with the number of all in `X-Total-Count` |
-//! | an execution | 200; 404 for an unknown one |
-//! | a stop | 200 with no body; 404 for an unknown execution |
-//! | tasks | 200, a page by job, with the number of all in `X-Total-Count`; 404 for an unknown execution |
+//! | policies | 200, all in their order |
+//! | a start | 201, with the `Location` of the execution; 404, 412 or 507 |
+//! | executions | 200, a page, the newest first |
+//! | an execution | 200, or 404 |
+//! | a stop | 200 with no body, or 404 |
+//! | tasks | 200, a page by job, or 404 |
 //!
-//! Bodies are compact JSON. The refusals have none.
+//! 404 is for an unknown number, 412 for a policy that is off, 507 where there was no room for an
+//! execution. Lists have the number of all items in `X-Total-Count`. Bodies are compact JSON; a
+//! refusal has none.
 ghost use Rattle.std.specs.Prelude.{◌≡◌, IfOk, option_copied};
 ghost use Rattle.hr_rest.specs.Page.{rows_of};
 ghost use Rattle.hr_rest.specs.Replying.{executions_reply, made_reply, one_reply, policies_reply, reply_of, start_reply, stop_reply, tasks_reply};
@@ -26,8 +28,8 @@ use hr_http1::Reply;
 use hr_policy::Policy;
 use std::alloc::Global;
 
-/// The reply to what is asked. It takes time in proportion to the page, and to the rows or executions
-/// of the snapshot, which are looked through.
+/// The reply to what is asked. It takes time in proportion to the page, and to the policies,
+/// executions or rows of the snapshot that are looked through.
 pub fn reply(alloc: Global, asked: &Asked, view: &Snapshot) -> Result<Reply, Memory>
     ensures { IfOk result (λ reply. reply ≡ reply_of asked.now view.now) }
 {

@@ -1,4 +1,4 @@
-//! Worked requests with their replies, off one device and onto another, where there is ample memory.
+//! Worked requests with their replies, off one device and onto another, with ample memory.
 
 use crate::{Snapshot, asked, raise, recount, reply, snapshot};
 use hr_base::{Bytes, ExecNo, JobNo, List, Mark, Memory, Moment, PolicyNo, RegNo, Status};

@@ -4,7 +4,6 @@ use Rattle.serde_json.proofs.Views.{view-Array}
 use Rattle.serde_json.specs.Data.{Data}
 use Rattle.serde_json.specs.View.{view}
 use Rattle.serde_json.specs.declared.value.Value.{Value}
-use Rattle.hr_event.specs.declared.view.ExecView.{ExecView}
 use Rattle.hr_rest.specs.Value.{exec_value, list_value}
 use Rattle.hr_rest.proofs.ListingLemmas.{map_reverse}
 use Rattle.hr_rest.proofs.listing.execs_value.Goals as goal

@@ -1,4 +1,4 @@
-use Rattle.std.proofs.Common.{ap, ◌∙◌, sym, arith, reverse, length, take, drop}
+use Rattle.std.proofs.Common.{ap, ◌∙◌, reverse, take, drop}
 use Rattle.hr_rest.proofs.PageLemmas.{page_turned}
 use Rattle.hr_rest.proofs.page.page_from_last.Goals as goal
 
