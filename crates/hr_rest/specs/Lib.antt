@@ -1,0 +1,10 @@
+pub mod Asking
+pub mod Counting
+pub mod Number
+pub mod Page
+pub mod Path
+pub mod Query
+pub mod Raising
+pub mod Replying
+pub mod Snapshot
+pub mod Value
