@@ -1,0 +1,5 @@
+mod CallLemmas
+mod NamingLemmas
+mod OrderLemmas
+pub mod PlanLaws
+mod TaskLemmas
