@@ -186,7 +186,7 @@ lists_short c filters s t listing still lists =
     record {
       repos = subst (λ (l : List RepoName). length l ≤ LIST_LIMIT) there.1 lists.reaches.asks.call.short;
       tags = subst (AreShort c filters) all
-      (goes_short c filters lists.reaches.first names t listing there.0 lists.reaches.goes);
+          (goes_short c filters lists.reaches.first names t listing there.0 lists.reaches.goes);
     }
 
 breaks_long : (c : Content) (filters : List Filter) (s t : Reg) (len : ℕ) → IsStill c s

@@ -20,7 +20,7 @@ tasks_more policy picks at pick specs made spec so_far within is push task =
     = ap (map (spec_of policy)) cut ∙ map-append (spec_of policy) (take at picks) (pick ∷ []) in
     record {
       each = push ∙ ap (λ (s : TaskSpec). specs ++ s ∷ []) task.0
-      ∙ ap (λ (l : List TaskSpec). l ++ spec_of policy pick ∷ []) so_far.each ∙ sym mapped;
+          ∙ ap (λ (l : List TaskSpec). l ++ spec_of policy pick ∷ []) so_far.each ∙ sym mapped;
       places = All-more (HasPlace policy) picks at pick within so_far.places (subst (HasPlace policy) is task.1);
     }
 

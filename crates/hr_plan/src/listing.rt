@@ -37,7 +37,7 @@ fn list_repos<A: Registry>(source: &mut A) -> Result<List<Name>, PlanRefused>
     ensures { MatchResult result
         (λ names. AsksRepos (A.seen source.old) (A.seen source.new) (Ok names))
         (λ why. Refuses (λ fault. AsksRepos (A.seen source.old) (A.seen source.new) (Err fault))
-            (A.seen source.old) (A.seen source.new) why) }
+        (A.seen source.old) (A.seen source.new) why) }
 {
     let before = source.count();
     match source.repos() {
@@ -56,7 +56,7 @@ fn visit<A: Registry>(
 ) -> Result<(), PlanRefused>
     ensures { MatchResult result
         (λ _. Visits filters.now repo.now (A.seen source.old) (A.seen source.new)
-            listing.old listing.new)
+        listing.old listing.new)
         (λ why. Halts filters.now repo.now (A.seen source.old) (A.seen source.new) why) }
 {
     if !meets_names(filters, repo) {
@@ -72,7 +72,7 @@ fn list_tags<A: Registry>(source: &mut A, repo: &Name) -> Result<List<Tagged>, P
     ensures { MatchResult result
         (λ tags. AsksTags repo.now (A.seen source.old) (A.seen source.new) (Ok tags))
         (λ why. Refuses (λ fault. AsksTags repo.now (A.seen source.old) (A.seen source.new)
-            (Err fault)) (A.seen source.old) (A.seen source.new) why) }
+        (Err fault)) (A.seen source.old) (A.seen source.new) why) }
 {
     let before = source.count();
     match source.tags(repo) {
