@@ -2,4 +2,5 @@ mod CallLemmas
 mod NamingLemmas
 mod OrderLemmas
 pub mod PlanLaws
+mod SameLemmas
 mod TaskLemmas

@@ -1,12 +1,12 @@
 -- Lemmas on the order of tasks, which is that of picks.
-use Rattle.std.proofs.Common.{◌≡◌, ◌≢◌, List, [], ◌∷◌, ◌++◌, map, refl, sym, ap, subst}
+use Rattle.std.proofs.Common.{◌↔◌, ◌∙◌, Contains, ◌≡◌, ◌≢◌, List, [], ◌∷◌, ◌++◌, map, refl, sym, ap, subst}
 use Rattle.std.specs.List.{AllByRecursion}
 use Rattle.std.specs.List.Sorted.{IsStrictlySortedBy}
 use Rattle.std.specs.Cmp.Lexicographic.{slice_cmp}
 use Rattle.std.specs.Ordering.{nat_cmp}
 use Rattle.hr_name.specs.Name.{RepoName}
 use Rattle.hr_event.specs.declared.task.TaskSpec.{TaskSpec}
-use Rattle.hr_filter.specs.Selection.{RepoTag, picked_tags, repo_tag_cmp}
+use Rattle.hr_filter.specs.Selection.{IsSelected, RepoTag, picked_tags, repo_tag_cmp}
 use Rattle.hr_filter.specs.declared.listed.Listed.{Listed}
 use Rattle.hr_filter.specs.declared.listed.Pick.{Pick}
 use Rattle.hr_policy.specs.declared.config.Policy.{Policy}
@@ -34,3 +34,10 @@ plan_in_order policy listing specs plan = subst AreInOrder (sym plan.tasks.each)
   tags = subst (IsStrictlySortedBy repo_tag_cmp) (sym (tags_are policy plan.picks)) plan.selected.in_order;
   some = some_are policy plan.picks plan.selected.some;
 })
+
+-- the tasks of a plan have exactly the selected tags
+pub plan_exact : (policy : Policy) (listing : List Listed) (specs : List TaskSpec) → IsPlan policy listing specs
+    → (tag : RepoTag) → Contains (planned_tags specs) tag ↔ IsSelected policy.filters listing tag
+plan_exact policy listing specs plan tag =
+    subst (λ (tags : List RepoTag). Contains tags tag ↔ IsSelected policy.filters listing tag)
+    (sym (ap planned_tags plan.tasks.each ∙ tags_are policy plan.picks)) (plan.selected.exact tag)

@@ -3,6 +3,7 @@
 #![tactic(auto)]
 
 mod lane;
+mod law;
 mod listing;
 mod naming;
 mod planning;
@@ -12,5 +13,6 @@ mod tasks;
 mod tests;
 
 pub use lane::{each_name_has_one_lane, lane_of};
+pub use law::{a_listing_has_one_plan, plans_have_what_is_selected};
 pub use planning::plan;
 pub use refusal::PlanRefused;
