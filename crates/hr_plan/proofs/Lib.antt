@@ -1,0 +1,6 @@
+mod CallLemmas
+mod NamingLemmas
+mod OrderLemmas
+pub mod PlanLaws
+mod SameLemmas
+mod TaskLemmas

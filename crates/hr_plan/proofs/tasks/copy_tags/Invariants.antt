@@ -1,0 +1,6 @@
+-- What was copied so far.
+use Rattle.std.proofs.Common.{◌≡◌, take}
+use Rattle.hr_plan.proofs.tasks.copy_tags.Given as goal
+
+abbrev pub invariant-loop-tag : goal.invariant-loop-tag
+invariant-loop-tag l = l.made ≡ take l.tag-index l.tags
