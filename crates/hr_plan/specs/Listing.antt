@@ -63,8 +63,8 @@ Refuses Answers before after why.Memory = Answers RegFault.Memory
 
 -- ---- one repository
 
--- a repository was gone through: where it meets all filters on names, its tags were listed and stand
--- at the end of the listing; where it doesn't, nothing was asked
+-- a repository was gone through: where it meets all filters on names, its tags were listed and
+-- stand at the end of the listing; where it doesn't, nothing was asked
 pub data Visits (filters : List Filter) (repo : RepoName) (before after : Reg)
     (listing made : List Listed) : Type 0 where
   passed : (MeetsNames filters repo → ⊥) → after ≡ before → made ≡ listing
@@ -85,7 +85,8 @@ pub data Halts (filters : List Filter) (repo : RepoName) (before after : Reg) (w
 -- ---- all repositories
 
 -- these repositories were gone through, in order
-pub data Goes (filters : List Filter) (before : Reg) : List RepoName → Reg → List Listed → Type 0 where
+pub data Goes (filters : List Filter) (before : Reg)
+    : List RepoName → Reg → List Listed → Type 0 where
   none : {names : List RepoName} {after : Reg} {made : List Listed} → names ≡ [] → after ≡ before
       → made ≡ [] → Goes filters before names after made
   more : {names : List RepoName} {after : Reg} {made : List Listed} (front : List RepoName)

@@ -32,8 +32,8 @@ pub record IsPlan (policy : Policy) (listing : List Listed) (specs : List TaskSp
   pub selected : IsSelection policy.filters listing picks
   pub tasks : AreTasks policy picks specs
 
--- a listing of which a policy has no plan: the first picked repository whose name at the destination
--- is too long
+-- a listing of which a policy has no plan: the first picked repository whose name at the
+-- destination is too long
 pub record HasLongPlace (policy : Policy) (listing : List Listed) (repo : RepoName) : Type 0 where
   pub picks : List Pick
   pub selected : IsSelection policy.filters listing picks
@@ -66,8 +66,8 @@ Plans policy before after (Err why.Memory) =
 abbrev pub planned_tags : List TaskSpec → List RepoTag
 planned_tags specs = flat_map (λ spec. map (λ tag. (spec.from, tag)) spec.tags) specs
 
--- the repositories of tasks are in byte order, each once, and so are the tags of each, of which there
--- is at least one
+-- the repositories of tasks are in byte order, each once, and so are the tags of each, of which
+-- there is at least one
 pub record AreInOrder (specs : List TaskSpec) : Type 0 where
   pub repos : IsStrictlySortedBy (slice_cmp nat_cmp) (map (λ spec. spec.from) specs)
   pub tags : IsStrictlySortedBy repo_tag_cmp (planned_tags specs)
@@ -108,8 +108,8 @@ pub data IsFirstLong (c : Content) (filters : List Filter) (len : ℕ) : Type 0 
       → repos_of c ≡ front ++ repo ∷ rest → AreShort c filters front → MeetsNames filters repo
       → LIST_LIMIT < len → length (tags_of c repo) ≡ len → IsFirstLong c filters len
 
--- the answer by a content: the plan of all its tags, or the first pick whose name at the destination
--- is too long, or the first list that is; a fault and want of memory may come before
+-- the answer by a content: the plan of all its tags, or the first pick whose name at the
+-- destination is too long, or the first list that is; a fault and want of memory may come before
 abbrev pub AnswersBy : Policy → Content → Result (List TaskSpec) PlanRefused → Type 0
 AnswersBy policy c (Ok specs) =
     EachIsShort c policy.filters × IsPlan policy (listing_of c) specs

@@ -7,8 +7,8 @@ ghost use Rattle.hr_plan.specs.Lane.{HasOneLane, lane_of};
 use hr_base::RegNo;
 use hr_name::Name;
 
-/// The lane that owns a repository of a destination, from 0, among so many lanes: the sum of the bytes
-/// of its name and of the destination's number, modulo their number.
+/// The lane that owns a repository of a destination, from 0, among so many lanes: the sum of the
+/// bytes of its name and of the destination's number, modulo their number.
 pub fn lane_of(to: &Name, dst: RegNo, lanes: u8) -> u8
     requires { 0 < lanes }
     ensures value { result ≡ lane_of to.now dst lanes }

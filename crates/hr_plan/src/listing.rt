@@ -1,6 +1,6 @@
 //! What a source lists for a policy: the tags of each repository that meets all filters on names.
 //! (Our own; OCI Distribution 1.1, "Listing Tags".)
-ghost use Rattle.std.specs.Prelude.{◌≡◌, ◌++◌, OnOk, Ok, Err, MatchResult, IfOk, map};
+ghost use Rattle.std.specs.Prelude.{◌≡◌, ◌++◌, OnOk, Ok, Err, MatchResult, IfOk};
 ghost use Rattle.hr_plan.specs.Listing.{AsksRepos, AsksTags, Breaks, Halts, Lists, Refuses, Visits, listed_in};
 
 use crate::PlanRefused;

@@ -1,4 +1,5 @@
-//! Which repositories a policy asks for their tags: those that meet all filters on names. (Our own.)
+//! Which repositories a policy asks for their tags: those that meet all filters on names. (Our
+//! own.)
 ghost use Rattle.std.specs.Prelude.{◌≡◌, ◌↔◌, IsTrue};
 ghost use Rattle.hr_filter.specs.Filter.{selects};
 ghost use Rattle.hr_plan.specs.Naming.{MeetsName, MeetsNames};

@@ -12,8 +12,8 @@ pub enum PlanRefused {
     /// A call of the source failed: it had counted `before` faults just before it, and `after` just
     /// after.
     Fault { before: u64, after: u64 },
-    /// The source has so many repositories, or so many tags in one of them, which is above the limit
-    /// of a list.
+    /// The source has so many repositories, or so many tags in one of them, which is above the
+    /// limit of a list.
     TooLong { len: u64 },
     /// This is the first picked repository, in byte order, whose name at the destination has more
     /// than `NAME_LIMIT` bytes.

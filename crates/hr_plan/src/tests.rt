@@ -203,7 +203,7 @@ fn names_go_to_lanes_by_the_sum_of_their_bytes(rt: HostRuntime) -> Result<(), Fa
     let longest = [b'a'; 255];
     for (name, dst, lanes, wanted) in [
         (b"app".as_slice(), 2, 1, 0),
-        (b"library/alpine", 2, 4, 3),
+        (b"ns/img", 2, 4, 3),
         (b"library/alpine", 250, 64, 23),
         (&longest, 250, 64, 25),
     ] {
