@@ -148,6 +148,33 @@ fn requests_are_taken_or_refused_by_the_table(rt: HostRuntime) -> Result<(), Fai
 }
 
 #[test]
+fn each_path_has_its_verbs(rt: HostRuntime) -> Result<(), Fail> {
+    let alloc = rt.alloc();
+    let view = view(alloc)?;
+    let rows: [(&str, [&str; 4]); 6] = [
+        ("GET", ["200", "200", "200", "200"]),
+        ("POST", ["405", "400", "405", "405"]),
+        ("PUT", ["405", "405", "200", "405"]),
+        ("DELETE", ["405", "405", "405", "405"]),
+        ("PATCH", ["405", "405", "405", "405"]),
+        ("OPTIONS", ["405", "405", "405", "405"]),
+    ];
+    for (verb, [policies, executions, one, tasks]) in rows {
+        for (path, status) in [
+            ("/policies", policies),
+            ("/executions", executions),
+            ("/executions/5", one),
+            ("/executions/5/tasks", tasks),
+        ] {
+            let sent = answered(alloc, request(alloc, verb, path, b"")?, &view)?;
+            let start = format!(in alloc; "HTTP/1.1 {status} ")?;
+            assert!(rt; sent.starts_with(start.as_bytes()), "{verb} {path}");
+        }
+    }
+    Ok(())
+}
+
+#[test]
 fn replies_are_written_as_clients_read_them(rt: HostRuntime) -> Result<(), Fail> {
     let alloc = rt.alloc();
     let view = view(alloc)?;
