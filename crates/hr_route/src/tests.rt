@@ -19,12 +19,13 @@ fn status_of(alloc: Global, verb: Verb, target: &str) -> u16 {
 #[test]
 fn what_is_got_is_taken_or_refused_by_the_table(rt: HostRuntime) {
     let alloc = rt.alloc();
-    let rows: [(&str, u16); 10] = [
+    let rows: [(&str, u16); 11] = [
         ("/v2/", 0),
         ("/v2", 404),
         ("/v2/_catalog?n=10000&last=b", 0),
         ("/v2/_catalog?n=10001", 400),
         ("/v2/_catalog?n=", 400),
+        ("/v2/_catalog?n=0", 400),
         ("/v2/_catalog?n=1&n=1", 400),
         ("/v2/a%2Fb/manifests/v1", 0),
         ("/v2/a//b/manifests/v1", 400),
@@ -49,6 +50,21 @@ fn a_verb_is_taken_or_refused_by_the_table(rt: HostRuntime) {
     for (verb, target, status) in rows {
         assert_eq!(rt; status_of(alloc, verb, target), status, "{target}");
     }
+}
+
+#[test]
+fn a_name_has_at_most_255_bytes(rt: HostRuntime) -> Result<(), Fail> {
+    let alloc = rt.alloc();
+    for (len, status) in [(255u16, 0u16), (256, 400)] {
+        let mut target = String::new(alloc);
+        target.push_str("/v2/")?;
+        for _ in 0..len {
+            target.push_str("a")?;
+        }
+        target.push_str("/manifests/v1")?;
+        assert_eq!(rt; status_of(alloc, Verb::Get, target.as_str()), status);
+    }
+    Ok(())
 }
 
 #[test]
